@@ -1,0 +1,45 @@
+-- `float::shift_nearest` meets its contract. Assumes nothing.
+use mathlib.Core.Path.{_≡_, sym, ap, _∙_, subst}
+use Prim.Native.Nat.{ℕ, _+_, _-_, _*_, _/_, _%_, _^_, _≤_, _<_}
+use native.Mathlib.Nat.{one-mul}
+use native.Mathlib.Omega.{arith}
+use borrow.Author.Needs.{needs}
+use lib.Dec.{lit<}
+use lib.Pow.{pow-pos, pow-mono, shl-exact}
+use lib.Ieee.Nearest.{closest}
+use Rattle.float.proofs.Closest.{closest-added}
+use Rattle.float.proofs.Pattern.{twice}
+use Rattle.float.proofs.shift_nearest.Statement.{statement}
+use Rattle.float.proofs.shift_nearest.Tie as tie
+
+-- `1 << (s - 1)`, as the machine has it
+abbrev half : ℕ → ℕ
+half s = 1 * 2 ^ (s - 1) % 2 ^ 64
+
+half-is : (s : ℕ) → s < 62 → half s ≡ 2 ^ (s - 1)
+half-is s h = shl-exact {a = 1} 1 (s - 1) 64 (lit< tt) (omega arith) ∙ one-mul (2 ^ (s - 1))
+
+half-pos : (s : ℕ) → s < 62 → 1 ≤ half s
+half-pos s h = subst (λ (x : ℕ). 1 ≤ x) (sym (half-is s h)) (pow-pos (s - 1))
+
+half-le : (s : ℕ) → s < 62 → half s ≤ 2 ^ 61
+half-le s h = subst (λ (x : ℕ). x ≤ 2 ^ 61) (sym (half-is s h)) (pow-mono {i = s - 1} {j = 61} (omega arith))
+
+sub-result : tie.Need-sub-result
+sub-result c = omega (arith, half-pos (c .args .s) (c .pre .1 .1))
+
+add-result : tie.Need-add-result
+add-result c = omega (arith, half-le (c .args .s) (c .pre .1 .1))
+
+add-result-2 : tie.Need-add-result-2
+add-result-2 c = omega (arith, half-le (c .args .s) (c .pre .1 .1))
+
+returns : tie.Need-returns
+returns c =
+    let m = c .args .m in
+    let s = c .args .s in
+    ap (λ (x : ℕ). (m + (x - 1) + m / 2 ^ s % 2) / 2 ^ s) (half-is s (c .pre .1 .1))
+    ∙ subst (λ (x : ℕ). (m + (2 ^ (s - 1) - 1) + m / x % 2) / x ≡ closest m x) (sym (twice s (c .pre .1 .0))) (closest-added m (2 ^ (s - 1)) (pow-pos (s - 1)))
+
+pub shift-nearest-spec : {M : Type 1} → statement M
+shift-nearest-spec = tie.close (tie.spec (λ c. search needs) (λ c. search needs) (λ c. search needs) sub-result add-result add-result-2 (λ c. search needs) returns)

@@ -1,0 +1,4 @@
+pub mod Arith
+pub mod Basic
+pub mod Narrow
+pub mod Root
