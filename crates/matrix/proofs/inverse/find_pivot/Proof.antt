@@ -1,0 +1,14 @@
+-- `matrix::inverse::find_pivot` meets its contract. Assumes nothing.
+use borrow.Author.Needs.{needs}
+use Rattle.matrix.specs.Inverse.{pivotOf}
+use Rattle.matrix.proofs.inverse.find_pivot.Statement.{statement}
+use Rattle.matrix.proofs.inverse.find_pivot.Tie as tie
+
+returns : tie.Need-returns
+unfolding pivotOf
+returns c = (cc, search needs)
+
+pub find-pivot-spec : {M : Type 1} → statement M
+find-pivot-spec =
+    tie.close
+    (tie.spec (λ c κs. search needs) (λ c κs. search needs) (λ c κs. search needs) (λ c κs. search needs) returns)

@@ -1,0 +1,18 @@
+-- `matrix::inverse::turn` meets its contract. Assumes nothing.
+use borrow.Author.Needs.{needs}
+use Rattle.matrix.specs.Inverse.{turned}
+use Rattle.matrix.proofs.inverse.turn.Statement.{statement}
+use Rattle.matrix.proofs.inverse.turn.Tie as tie
+
+returns : tie.Need-returns
+unfolding turned
+returns c =
+    let b = c .before .before .before .before .before .before in
+    let f = b .before .before .find-pivot in
+    (f .ensures, (cc, b .mark .ensures))
+
+pub turn-spec : {M : Type 1} → statement M
+turn-spec =
+    tie.close
+    (tie.spec (λ c κs. search needs) (λ c κs. search needs) (λ c κs. search needs) (λ c κs. search needs)
+    (λ c κs. search needs) returns)

@@ -1,0 +1,32 @@
+-- `Matrix4x4` of pbrt-rust, src/core/transform.rs, as a struct of rows. Definitions only.
+use Prim.Native.Nat.{ℕ}
+use mathlib.Core.List.{List, [], _∷_}
+use lib.ListN.{getD}
+use lib.Ieee.{Float, nan}
+use Rattle.float.specs.Arith.{0f, 1f}
+use Rattle.matrix.specs.Inverse.{inverseFlat}
+use Rattle.matrix.specs.declared.Row.{Row}
+use Rattle.matrix.specs.declared.Matrix4x4.{Matrix4x4}
+
+abbrev pub rowOf : Float → Float → Float → Float → Row
+rowOf a b c d = record { c0 = a; c1 = b; c2 = c; c3 = d }
+
+unfoldable pub identity : Matrix4x4
+identity = record { r0 = rowOf 1f 0f 0f 0f; r1 = rowOf 0f 1f 0f 0f; r2 = rowOf 0f 0f 1f 0f; r3 = rowOf 0f 0f 0f 1f }
+
+-- the sixteen floats, row by row
+unfoldable pub flat : Matrix4x4 → List Float
+flat m =
+    m .r0 .c0 ∷ m .r0 .c1 ∷ m .r0 .c2 ∷ m .r0 .c3 ∷ m .r1 .c0 ∷ m .r1 .c1 ∷ m .r1 .c2 ∷ m .r1 .c3 ∷
+    m .r2 .c0 ∷ m .r2 .c1 ∷ m .r2 .c2 ∷ m .r2 .c3 ∷ m .r3 .c0 ∷ m .r3 .c1 ∷ m .r3 .c2 ∷ m .r3 .c3 ∷ []
+
+abbrev pub rowFrom : List Float → ℕ → ℕ → ℕ → ℕ → Row
+rowFrom v a b c d = rowOf (getD v a nan) (getD v b nan) (getD v c nan) (getD v d nan)
+
+-- from_row_slice
+unfoldable pub matrixFrom : List Float → Matrix4x4
+matrixFrom v = record { r0 = rowFrom v 0 1 2 3; r1 = rowFrom v 4 5 6 7; r2 = rowFrom v 8 9 10 11; r3 = rowFrom v 12 13 14 15 }
+
+-- inverse
+unfoldable pub inverseOf : Matrix4x4 → Matrix4x4
+inverseOf m = matrixFrom (inverseFlat (flat m))
