@@ -1,0 +1,199 @@
+//! The supplied Rust as a library. Each `pub mod name;` is a file: the build puts the supplied ones,
+//! unchanged, beside our stand-ins. What a renderer has and a curve does not use stands here as empty
+//! types: no value of them is ever made.
+
+/// Statistics are not kept, but for the last value of a distribution: for curves that is the depth.
+#[macro_export]
+macro_rules! stat_int_distribution {
+    ($title:expr, $name:ident) => {
+        pub mod $name {
+            use std::sync::atomic::{AtomicU64, Ordering};
+
+            static LAST: AtomicU64 = AtomicU64::new(0);
+
+            pub fn init() {}
+
+            pub fn report_value(value: u64) {
+                LAST.store(value, Ordering::Relaxed);
+            }
+
+            pub fn last() -> u64 {
+                LAST.load(Ordering::Relaxed)
+            }
+        }
+    };
+}
+
+#[macro_export]
+macro_rules! stat_counter {
+    ($title:expr, $name:ident) => {
+        mod $name {
+            pub fn init() {}
+            pub fn inc() {}
+        }
+    };
+}
+
+#[macro_export]
+macro_rules! stat_memory_counter {
+    ($title:expr, $name:ident) => {
+        mod $name {
+            pub fn init() {}
+            pub fn add(_bytes: u64) {}
+        }
+    };
+}
+
+#[macro_export]
+macro_rules! stat_percent {
+    ($title:expr, $name:ident) => {
+        mod $name {
+            pub fn init() {}
+            pub fn inc_num() {}
+            pub fn inc_den() {}
+        }
+    };
+}
+
+pub mod core {
+    // Supplied.
+    pub mod interaction;
+    pub mod pbrt;
+    pub mod quaternion;
+    pub mod transform;
+
+    // Stand-ins.
+    pub mod paramset;
+    pub mod shape;
+
+    pub mod geometry {
+        // Supplied.
+        pub mod bounds;
+        pub mod ray;
+        pub mod vector;
+
+        // Stand-ins.
+        pub mod normal;
+        pub mod point;
+
+        pub mod geometry {
+            use super::normal::Normal3f;
+            use super::point::Point3f;
+            use super::vector::Vector3f;
+
+            pub fn offset_ray_origin(
+                _p: &Point3f,
+                _p_error: &Vector3f,
+                _n: &Normal3f,
+                _w: &Vector3f,
+            ) -> Point3f {
+                unimplemented!("not supplied, and not used by curves")
+            }
+        }
+    }
+
+    pub mod medium {
+        use std::sync::Arc;
+
+        pub enum Mediums {}
+
+        #[derive(Clone)]
+        pub enum PhaseFunctions {}
+
+        #[derive(Clone, Default)]
+        pub struct MediumInterface {
+            pub inside: Option<Arc<Mediums>>,
+            pub outside: Option<Arc<Mediums>>,
+        }
+    }
+
+    pub mod material {
+        pub enum TransportMode {}
+    }
+
+    pub mod spectrum {
+        pub struct Spectrum;
+
+        impl Spectrum {
+            pub fn new(_value: f32) -> Spectrum {
+                Spectrum
+            }
+        }
+    }
+
+    pub mod light {
+        use super::geometry::vector::Vector3f;
+        use super::interaction::SurfaceInteraction;
+        use super::spectrum::Spectrum;
+
+        pub trait Light {
+            fn l(&self, isect: &SurfaceInteraction, w: &Vector3f) -> Spectrum;
+        }
+
+        pub enum Lights {}
+
+        impl Light for Lights {
+            fn l(&self, _isect: &SurfaceInteraction, _w: &Vector3f) -> Spectrum {
+                match *self {}
+            }
+        }
+    }
+
+    pub mod primitive {
+        use super::interaction::SurfaceInteraction;
+        use super::light::Lights;
+        use super::material::TransportMode;
+        use bumpalo_herd::Member;
+        use std::sync::Arc;
+
+        pub trait Primitive {
+            fn get_area_light(&self) -> Option<Arc<Lights>>;
+            fn compute_scattering_functions<'b>(
+                &self,
+                isect: &mut SurfaceInteraction<'b>,
+                arena: &Member<'b>,
+                mode: TransportMode,
+                allow_multiple_lobes: bool,
+            );
+        }
+
+        pub enum Primitives {}
+
+        impl Primitive for Primitives {
+            fn get_area_light(&self) -> Option<Arc<Lights>> {
+                match *self {}
+            }
+
+            fn compute_scattering_functions<'b>(
+                &self,
+                _isect: &mut SurfaceInteraction<'b>,
+                _arena: &Member<'b>,
+                _mode: TransportMode,
+                _allow_multiple_lobes: bool,
+            ) {
+                match *self {}
+            }
+        }
+    }
+
+    pub mod reflection {
+        #[derive(Clone)]
+        pub struct BSDF<'a>(std::marker::PhantomData<&'a ()>);
+    }
+
+    pub mod bssrdf {
+        #[derive(Clone)]
+        pub enum BSSRDFs {}
+    }
+}
+
+pub mod integrators {
+    pub mod bdpt {
+        pub struct EndpointInteraction<'a>(std::marker::PhantomData<&'a ()>);
+    }
+}
+
+pub mod shapes {
+    // Supplied.
+    pub mod curve;
+}
