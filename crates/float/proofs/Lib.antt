@@ -1,3 +1,4 @@
+pub mod Bound
 pub mod Compare
 pub mod Law
 mod Closest
