@@ -1,0 +1,10 @@
+pub mod Law
+pub mod Marked
+mod Accepted
+mod Counts
+mod Created
+mod Laid
+mod Limits
+mod Lists
+mod Reading
+mod Within

@@ -1,0 +1,12 @@
+-- `curve::basis::elevate` meets its contract: each return rewrites by the facts on its way.
+-- Assumes nothing.
+use Rattle.curve.specs.Basis.{elevated}
+use Rattle.curve.proofs.basis.elevate.Statement.{statement}
+use Rattle.curve.proofs.basis.elevate.Tie as tie
+
+returns : tie.Need-returns
+unfolding elevated
+returns c = rw (c .lerp2 .ensures, c .before .lerp .ensures)
+
+pub elevate-spec : {M : Type 1} → statement M
+elevate-spec = tie.close (tie.spec (λ c κs. tt) (λ c κs. tt) returns)

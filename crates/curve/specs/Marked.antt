@@ -1,0 +1,37 @@
+-- 01's marked examples M1 to M8, as one list of instances: what a definition gives, and what it should. Definitions only.
+use Prim.Native.Nat.{ℕ, _*_}
+use mathlib.Core.List.{List, [], _∷_}
+use lib.ListN.{replicate}
+use lib.Ieee.{binary32, toBits}
+use Rattle.float.specs.Arith.{0f, 1f, 3f, 6f}
+use Rattle.curve.specs.Basis.{segmentAt}
+use Rattle.curve.specs.Create.{paramsOf, createdOf}
+use Rattle.curve.specs.declared.create.Created.{Created}
+use Rattle.curve.specs.declared.create.Created.the-variants.{Curves, Refused}
+
+-- an answer in 01's numbers: 0 and how many curves, or the refusal
+abbrev pub replyOf : Created → List ℕ
+replyOf (Curves n) = 0 ∷ n ∷ []
+replyOf (Refused k) = k ∷ []
+
+-- n points at the origin, in a list with room for 1,024 curves
+abbrev pub laid : ℕ → ℕ → ℕ → ℕ → List ℕ
+laid n degree basis splitdepth = replyOf (createdOf (replicate (3 * n) 0f) (paramsOf degree basis 0 1f 1f splitdepth) 16384)
+
+-- the inner x of the quadratic Bezier curve x = 0, 3, 6
+abbrev pub innerX : List ℕ
+innerX =
+    let cp = segmentAt (0f ∷ 0f ∷ 0f ∷ 3f ∷ 0f ∷ 0f ∷ 6f ∷ 0f ∷ 0f ∷ []) 2 0 0 in
+    toBits binary32 (cp .p1 .x) ∷ toBits binary32 (cp .p2 .x) ∷ []
+
+abbrev pub instances : List (List ℕ × List ℕ)
+instances =
+    (laid 1 3 0 0, 0 ∷ 0 ∷ [])  -- M1
+    ∷ (laid 5 3 0 0, 3 ∷ [])  -- M2
+    ∷ (laid 7 3 0 0, 0 ∷ 2 ∷ [])  -- M3
+    ∷ (laid 0 2 0 0, 3 ∷ [])  -- M4
+    ∷ (laid 3 3 1 0, 3 ∷ [])  -- M5
+    ∷ (laid 4 3 1 0, 0 ∷ 1 ∷ [])  -- M6
+    ∷ (laid 7 3 0 10, 6 ∷ [])  -- M7
+    ∷ (innerX, 0x4000_0000 ∷ 0x4080_0000 ∷ [])  -- M8
+    ∷ []
