@@ -1,6 +1,6 @@
-//! The supplied Rust as a library. Each `pub mod name;` is a file: the build puts the supplied ones,
-//! unchanged, beside our stand-ins. What a renderer has and a curve does not use stands here as empty
-//! types: no value of them is ever made.
+//! The supplied Rust as a library. Each `pub mod name;` is a file, and so is what is included: the build
+//! puts the supplied ones, unchanged, beside our stand-ins. What a renderer has and a curve does not use
+//! stands here as empty types: no value of them is ever made.
 
 /// Statistics are not kept, but for the last value of a distribution: for curves that is the depth.
 #[macro_export]
@@ -194,6 +194,19 @@ pub mod integrators {
 }
 
 pub mod shapes {
-    // Supplied.
-    pub mod curve;
+    pub mod curve {
+        // Supplied. What follows it is ours, and stands here to read its private fields.
+        include!("shapes/curve.rs");
+
+        /// 01's piece: four points, two widths, umin, umax.
+        pub fn record(curve: &Curve) -> [Float; 16] {
+            let [a, b, c, d] = curve.common.cpobj;
+            let [width0, width1] = curve.common.width;
+
+            [
+                a.x, a.y, a.z, b.x, b.y, b.z, c.x, c.y, c.z, d.x, d.y, d.z, width0, width1,
+                curve.umin, curve.umax,
+            ]
+        }
+    }
 }

@@ -3,8 +3,8 @@
 use crate::rng::{neighbour, neighbour64, pow2, Rng};
 use crate::words::{put, put_f64, Words};
 
-type Triple = [f32; 3];
-type Matrix = [f32; 16];
+pub type Triple = [f32; 3];
+pub type Matrix = [f32; 16];
 
 pub fn sqrt(rng: &mut Rng, words: &mut Words) {
     let x = match rng.below(12) {
@@ -372,7 +372,7 @@ fn placement(rng: &mut Rng) -> Matrix {
     m
 }
 
-fn matrix(rng: &mut Rng) -> Matrix {
+pub fn matrix(rng: &mut Rng) -> Matrix {
     let mut m = identity();
     match rng.below(16) {
         0 => {}
@@ -399,7 +399,13 @@ fn matrix(rng: &mut Rng) -> Matrix {
 
 /// A matrix whose last row now and then aims at the weight of p.
 fn matrix_at(rng: &mut Rng, p: Triple) -> Matrix {
-    let mut m = matrix(rng);
+    let m = matrix(rng);
+
+    aimed(rng, m, p)
+}
+
+/// The matrix, its last row now and then changed for the weight of p.
+pub fn aimed(rng: &mut Rng, mut m: Matrix, p: Triple) -> Matrix {
     let row: Triple = match rng.below(24) {
         // Zero whatever the point.
         0 => rng.zeros(),

@@ -1,18 +1,25 @@
 //! What can be asked: for each kind its layout, its inputs and the call of the supplied Rust.
 
-use crate::inputs;
+use crate::limits::{self, ShapeParams};
 use crate::rng::Rng;
-use crate::words::{put, put_matrix, put_point, put_vector, Reader, Words};
+use crate::words::{put, put_bounds, put_matrix, put_point, put_vector, Reader, Words};
+use crate::{curve_inputs, inputs};
+use pbrt::core::geometry::point::Point3f;
 use pbrt::core::geometry::ray::Ray;
 use pbrt::core::geometry::vector::{vec3_coordinate_system, Vector3f};
+use pbrt::core::paramset::ParamSet;
+use pbrt::core::shape::{Shape, Shapes};
 use pbrt::core::transform::{Matrix4x4, Transform};
+use pbrt::shapes::curve::{self, Curve, CurveCommon, CurveType};
+use std::panic::catch_unwind;
+use std::sync::Arc;
 
 pub struct Kind {
     pub name: &'static str,
     pub layout: &'static str,
     /// Puts the inputs of one line.
     pub inputs: fn(&mut Rng, &mut Words),
-    /// Reads the inputs and puts the answer; panics where the Rust does.
+    /// Reads the inputs and puts the answer; panics where the Rust does, unless a status tells it.
     pub answer: fn(&mut Reader, &mut Words),
 }
 
@@ -29,6 +36,9 @@ const fn kind(
         answer,
     }
 }
+
+/// 01's refusal where the Rust panics on the weight of a corner.
+const ZERO_WEIGHT: u32 = 12;
 
 pub const KINDS: &[Kind] = &[
     kind("sqrt", "x -> root", inputs::sqrt, sqrt),
@@ -71,6 +81,31 @@ pub const KINDS: &[Kind] = &[
         "m(16) -> 00000001 or 00000000",
         inputs::swaps_handedness,
         swaps_handedness,
+    ),
+    kind(
+        "area",
+        "piece(16) -> status [area]",
+        curve_inputs::piece,
+        area,
+    ),
+    kind(
+        "object_bound",
+        "piece(16) -> status [p_min(3) p_max(3)]",
+        curve_inputs::piece,
+        object_bound,
+    ),
+    kind(
+        "world_bound",
+        "piece(16) object_to_world(16) -> status [p_min(3) p_max(3)]",
+        curve_inputs::world_bound,
+        world_bound,
+    ),
+    kind(
+        "create_curve_shape",
+        "degree basis type width0 width1 splitdepth list_len floats_len points(floats_len) -> \
+         status [pieces hash_high hash_low]",
+        curve_inputs::create_curve_shape,
+        create_curve_shape,
     ),
 ];
 
@@ -125,8 +160,7 @@ fn transform_ray_error(line: &mut Reader, answer: &mut Words) {
 fn transform_bounds(line: &mut Reader, answer: &mut Words) {
     let transform = transform(line);
     let bounds = transform.transform_bounds(&line.bounds());
-    put_point(answer, &bounds.p_min);
-    put_point(answer, &bounds.p_max);
+    put_bounds(answer, &bounds);
 }
 
 fn coordinate_system(line: &mut Reader, answer: &mut Words) {
@@ -150,4 +184,117 @@ fn swaps_handedness(line: &mut Reader, answer: &mut Words) {
 /// What is asked of it here does not read its inverse.
 fn transform(line: &mut Reader) -> Transform {
     Transform::from_matrices(&line.matrix(), &Matrix4x4::default())
+}
+
+fn area(line: &mut Reader, answer: &mut Words) {
+    let piece = line.floats();
+    let area = limits::piece(&piece).map(|()| curve_of(&piece, Transform::default()).area());
+    put_reply(answer, area, |words, area| put(words, &[area]));
+}
+
+fn object_bound(line: &mut Reader, answer: &mut Words) {
+    let piece = line.floats();
+    let bounds =
+        limits::piece(&piece).map(|()| curve_of(&piece, Transform::default()).object_bound());
+    put_reply(answer, bounds, |words, bounds| put_bounds(words, &bounds));
+}
+
+/// Within 01's limits only the assertion on a corner's weight can fail.
+fn world_bound(line: &mut Reader, answer: &mut Words) {
+    let piece = line.floats();
+    let transform = transform(line);
+    let bounds = limits::piece(&piece)
+        .and_then(|()| limits::matrix(&transform.m))
+        .and_then(|()| {
+            catch_unwind(|| curve_of(&piece, transform).world_bound()).map_err(|_| ZERO_WEIGHT)
+        });
+    put_reply(answer, bounds, |words, bounds| put_bounds(words, &bounds));
+}
+
+fn create_curve_shape(line: &mut Reader, answer: &mut Words) {
+    let params = ShapeParams {
+        degree: line.word(),
+        basis: line.word(),
+        ty: line.word(),
+        widths: line.floats(),
+        split: line.word(),
+        list_len: line.word(),
+        floats: line.counted_floats(),
+    };
+    let curves = limits::create_curve_shape(&params).map(|pieces| {
+        let curves = curves_of(&params);
+        assert_eq!(pieces, curves.len() as i64);
+
+        curves
+    });
+    put_reply(answer, curves, |words, curves| {
+        let mut list = Words::new();
+        for shape in &curves {
+            let Shapes::Curve(curve) = shape.as_ref();
+            put(&mut list, &curve::record(curve));
+        }
+        for i in list.len() as u32..params.list_len {
+            put(&mut list, &[list_before(i)]);
+        }
+        let hash = hash(&list);
+        words.extend([curves.len() as u32, (hash >> 32) as u32, hash as u32]);
+    });
+}
+
+/// 01's reply: the status, then what an acceptance carries.
+fn put_reply<T>(answer: &mut Words, reply: Result<T, u32>, put: impl Fn(&mut Words, T)) {
+    match reply {
+        Ok(value) => {
+            answer.push(0);
+            put(answer, value);
+        }
+        Err(refusal) => answer.push(refusal),
+    }
+}
+
+/// The curve that a piece stands for. What is asked of it here does not read world_to_object.
+pub fn curve_of(piece: &[f32; 16], object_to_world: Transform) -> Curve {
+    let point = |i: usize| Point3f::new(piece[3 * i], piece[3 * i + 1], piece[3 * i + 2]);
+    let points = [point(0), point(1), point(2), point(3)];
+    let common = CurveCommon::new(points, piece[12], piece[13], CurveType::Flat, None);
+    let world_to_object = Arc::new(Transform::default());
+
+    Curve::new(
+        Arc::new(object_to_world),
+        world_to_object,
+        false,
+        Arc::new(common),
+        piece[14],
+        piece[15],
+    )
+}
+
+/// The Rust's call, given each parameter that it looks up for flat curves.
+fn curves_of(params: &ShapeParams) -> Vec<Arc<Shapes>> {
+    let point = |p: &[f32]| Point3f::new(p[0], p[1], p[2]);
+    let points = params.floats.chunks(3).map(point).collect();
+    let basis = ["bezier", "bspline"][params.basis as usize];
+    let mut set = ParamSet::default();
+    set.add_int("degree", vec![params.degree as isize]);
+    set.add_string("basis", vec![basis.to_string()]);
+    set.add_string("type", vec!["flat".to_string()]);
+    set.add_float("width0", vec![params.widths[0]]);
+    set.add_float("width1", vec![params.widths[1]]);
+    set.add_int("splitdepth", vec![params.split as isize]);
+    set.add_point3f("P", points);
+    let transform = Arc::new(Transform::default());
+
+    curve::create_curve_shape(transform.clone(), transform, false, &set)
+}
+
+/// What stands at i in the list before the call.
+fn list_before(i: u32) -> f32 {
+    f32::from_bits(i.wrapping_mul(2_654_435_761) ^ 0x3f80_0000)
+}
+
+/// FNV-1a, a whole word at each step.
+fn hash(words: &[u32]) -> u64 {
+    words.iter().fold(0xcbf2_9ce4_8422_2325, |hash: u64, word| {
+        (hash ^ *word as u64).wrapping_mul(0x100_0000_01b3)
+    })
 }

@@ -1,7 +1,9 @@
 //! Answers of the supplied Rust on seeded inputs, one line each. See README.md.
 
+mod curve_inputs;
 mod inputs;
 mod kinds;
+mod limits;
 mod rng;
 mod words;
 
@@ -34,7 +36,8 @@ fn usage() -> String {
          oracle kinds         the names of the kinds\n\
          \n\
          Words of eight hexadecimal digits; a NaN is 7fc00000. A line without an answer is one on which\n\
-         the Rust panics because a length or a weight is zero.\n\n",
+         the Rust panics because a length or a weight is zero. A status is 0 or the number of 01's refusal,\n\
+         behind which nothing follows.\n\n",
     );
     for kind in KINDS {
         text += &format!("{:20} {}\n", kind.name, kind.layout);

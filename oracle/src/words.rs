@@ -32,6 +32,11 @@ pub fn put_point(words: &mut Words, p: &Point3f) {
     put(words, &[p.x, p.y, p.z]);
 }
 
+pub fn put_bounds(words: &mut Words, bounds: &Bounds3f) {
+    put_point(words, &bounds.p_min);
+    put_point(words, &bounds.p_max);
+}
+
 pub fn put_matrix(words: &mut Words, m: &Matrix4x4) {
     put(words, m.m.as_flattened());
 }
@@ -40,7 +45,7 @@ pub fn put_matrix(words: &mut Words, m: &Matrix4x4) {
 pub struct Reader<'a>(pub &'a [u32]);
 
 impl Reader<'_> {
-    fn word(&mut self) -> u32 {
+    pub fn word(&mut self) -> u32 {
         let word = self.0[0];
         self.0 = &self.0[1..];
 
@@ -58,8 +63,15 @@ impl Reader<'_> {
         f64::from_bits((high as u64) << 32 | low as u64)
     }
 
-    fn floats<const N: usize>(&mut self) -> [f32; N] {
+    pub fn floats<const N: usize>(&mut self) -> [f32; N] {
         std::array::from_fn(|_| self.float())
+    }
+
+    /// A count, then as many floats.
+    pub fn counted_floats(&mut self) -> Vec<f32> {
+        let count = self.word();
+
+        (0..count).map(|_| self.float()).collect()
     }
 
     pub fn vector(&mut self) -> Vector3f {

@@ -1,0 +1,80 @@
+//! 01's refusals 1 to 10, which the supplied Rust has not, or not in this order: a second reading of the
+//! paper, independent of the library's. Each function tells the first refusal that holds.
+
+use pbrt::core::transform::Matrix4x4;
+
+/// What laying takes, of the list only its length.
+pub struct ShapeParams {
+    pub degree: u32,
+    pub basis: u32,
+    pub ty: u32,
+    pub widths: [f32; 2],
+    pub split: u32,
+    pub list_len: u32,
+    pub floats: Vec<f32>,
+}
+
+/// Laying: how many pieces, or refusal 1 to 8.
+pub fn create_curve_shape(params: &ShapeParams) -> Result<i64, u32> {
+    let degree = params.degree as i64;
+    if degree != 2 && degree != 3 {
+        return Err(1);
+    }
+    if params.basis != 0 && params.basis != 1 {
+        return Err(2);
+    }
+    let floats = params.floats.len() as i64;
+    let n = floats / 3;
+    let (right, segments) = if params.basis == 0 {
+        ((n - 1 - degree) % degree == 0, (n - 1) / degree)
+    } else {
+        (n > degree, n - degree)
+    };
+    if floats % 3 != 0 || !right {
+        return Err(3);
+    }
+    if params.ty != 0 {
+        return Err(4);
+    }
+    if params.split > 10 {
+        return Err(5);
+    }
+    let pieces = segments << params.split;
+    if n > 256 || pieces > 1024 {
+        return Err(6);
+    }
+    let coordinates = params.floats.iter().all(|x| x.abs() <= 1_048_576.0);
+    let width = |w: f32| 1.0 / 1024.0 <= w && w <= 1024.0;
+    if !coordinates || !width(params.widths[0]) || !width(params.widths[1]) {
+        return Err(7);
+    }
+    if (params.list_len as i64) < 16 * pieces {
+        return Err(8);
+    }
+
+    Ok(pieces)
+}
+
+/// Refusal 9.
+pub fn piece(floats: &[f32; 16]) -> Result<(), u32> {
+    let finite = floats.iter().all(|x| x.is_finite());
+    let coordinates = floats[..12].iter().all(|x| x.abs() <= 2_097_152.0);
+    let width = |w: f32| 1.0 / 2048.0 <= w && w <= 2048.0;
+    let widths = width(floats[12]) && width(floats[13]);
+    let (umin, umax) = (floats[14], floats[15]);
+    if finite && coordinates && widths && 0.0 <= umin && umin < umax && umax <= 1.0 {
+        Ok(())
+    } else {
+        Err(9)
+    }
+}
+
+/// Refusal 10.
+pub fn matrix(matrix: &Matrix4x4) -> Result<(), u32> {
+    let mut entries = matrix.m.iter().flatten();
+    if entries.all(|x| x.is_finite() && x.abs() <= 1_048_576.0) {
+        Ok(())
+    } else {
+        Err(10)
+    }
+}
