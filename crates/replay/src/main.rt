@@ -2,51 +2,53 @@
 // kind with the number of answers that were compared and that differ. A difference prints its line.
 use libc::STDOUT_FILENO;
 
-mod answer;
 mod compare;
+mod create;
+mod curve_kinds;
+mod geometry_kinds;
 mod scan;
-mod words;
+mod transform_kinds;
 
-use scan::Scan;
+use scan::Tally;
 
 // Reads once, and answers whether to go on.
 struct Turn {
-    scan: Scan,
+    tally: Tally,
     goes_on: bool,
 }
 
-fn read_some(fd: i32, kind: u8, words: &mut [u32; 96], scan: Scan) -> Turn {
+fn read_some(fd: i32, kind: u8, words: &mut [u32; 4096], tally: Tally) -> Turn {
     let mut buf = io::large_buffer();
     let got = libc::read(fd, &mut buf);
     if got <= 0 {
         return Turn {
-            scan,
+            tally,
             goes_on: false,
         };
     }
     let n = io::count(got, &buf);
-    let after = scan::scan_bytes(kind, &buf[..n], words, scan);
+    let after = scan::scan_bytes(kind, &buf[..n], words, tally);
     Turn {
-        scan: after,
+        tally: after,
         goes_on: true,
     }
 }
 
 // A proved loop has to end, and nothing says that a file does: the turns are counted down from a
 // number that no run uses up.
-fn read_all(fd: i32, kind: u8) -> Scan {
-    let mut words = [0u32; 96];
-    let mut scan = scan::start();
+fn read_all(fd: i32, kind: u8) -> Tally {
+    let mut words = [0u32; 4096];
+    let mut tally = scan::start();
     let mut turns = u64::MAX;
     while turns > 0 {
-        let turn = read_some(fd, kind, &mut words, scan);
-        scan = turn.scan;
+        let turn = read_some(fd, kind, &mut words, tally);
+        tally = turn.tally;
         if !turn.goes_on {
-            return scan;
+            return tally;
         }
         turns -= 1;
     }
-    scan
+    tally
 }
 
 fn replay(kind: u8, path: &[u8]) {
@@ -55,26 +57,45 @@ fn replay(kind: u8, path: &[u8]) {
         os::fail(path);
         return;
     }
-    let scan = read_all(fd, kind);
+    let tally = read_all(fd, kind);
     libc::close(fd);
     io::write_all(STDOUT_FILENO, path);
     io::write_all(STDOUT_FILENO, b": ");
-    io::print_decimal(STDOUT_FILENO, scan.lines);
+    io::print_decimal(STDOUT_FILENO, tally.lines);
     io::write_all(STDOUT_FILENO, b" compared, ");
-    io::print_decimal(STDOUT_FILENO, scan.differ);
+    io::print_decimal(STDOUT_FILENO, tally.differ);
     io::write_all(STDOUT_FILENO, b" differ\n");
 }
 
+fn replay_geometry() {
+    replay(geometry_kinds::SQRT, b"sqrt.txt");
+    replay(geometry_kinds::NARROW, b"narrow.txt");
+    replay(geometry_kinds::CROSS, b"cross.txt");
+    replay(geometry_kinds::NORMALIZE, b"normalize.txt");
+    replay(geometry_kinds::COORDINATE_SYSTEM, b"coordinate_system.txt");
+}
+
+fn replay_transform() {
+    replay(transform_kinds::INVERSE, b"inverse.txt");
+    replay(transform_kinds::TRANSFORM_POINT, b"transform_point.txt");
+    replay(
+        transform_kinds::TRANSFORM_RAY_ERROR,
+        b"transform_ray_error.txt",
+    );
+    replay(transform_kinds::TRANSFORM_BOUNDS, b"transform_bounds.txt");
+    replay(transform_kinds::SWAPS_HANDEDNESS, b"swaps_handedness.txt");
+    replay(transform_kinds::LOOK_AT, b"look_at.txt");
+}
+
+fn replay_curve() {
+    replay(curve_kinds::AREA, b"area.txt");
+    replay(curve_kinds::OBJECT_BOUND, b"object_bound.txt");
+    replay(curve_kinds::WORLD_BOUND, b"world_bound.txt");
+    replay(curve_kinds::CREATE_CURVE_SHAPE, b"create_curve_shape.txt");
+}
+
 fn main() {
-    replay(answer::SQRT, b"sqrt.txt");
-    replay(answer::NARROW, b"narrow.txt");
-    replay(answer::CROSS, b"cross.txt");
-    replay(answer::NORMALIZE, b"normalize.txt");
-    replay(answer::COORDINATE_SYSTEM, b"coordinate_system.txt");
-    replay(answer::INVERSE, b"inverse.txt");
-    replay(answer::TRANSFORM_POINT, b"transform_point.txt");
-    replay(answer::TRANSFORM_RAY_ERROR, b"transform_ray_error.txt");
-    replay(answer::TRANSFORM_BOUNDS, b"transform_bounds.txt");
-    replay(answer::SWAPS_HANDEDNESS, b"swaps_handedness.txt");
-    replay(answer::LOOK_AT, b"look_at.txt");
+    replay_geometry();
+    replay_transform();
+    replay_curve();
 }

@@ -1,0 +1,76 @@
+// Lines of words in hexadecimal, a byte at a time.
+use libc::STDOUT_FILENO;
+
+// The word that is being read, and how many words stand before it in its line.
+pub struct Scan {
+    pub word: u32,
+    pub count: usize,
+}
+
+// What a byte leads to: on in its line, or its end with so many words.
+pub enum Step {
+    More(Scan),
+    End(usize),
+}
+
+pub fn start() -> Scan {
+    Scan { word: 0, count: 0 }
+}
+
+// A digit's value, and 16 for any other byte.
+fn digit(b: u8) -> u32 {
+    match b {
+        b'0'..=b'9' => (b - b'0') as u32,
+        b'a'..=b'f' => (b - b'a' + 10) as u32,
+        _ => 16,
+    }
+}
+
+// A line of more than 4,096 words keeps the first 4,095 and the last.
+fn end_word(words: &mut [u32; 4096], s: Scan) -> usize {
+    let at = s.count;
+    if at < 4095 {
+        words[at] = s.word;
+        at + 1
+    } else {
+        words[4095] = s.word;
+        4096
+    }
+}
+
+pub fn take_byte(b: u8, words: &mut [u32; 4096], s: Scan) -> Step {
+    let d = digit(b);
+    if d < 16 {
+        return Step::More(Scan {
+            word: s.word % 0x1000_0000 * 16 + d,
+            count: s.count,
+        });
+    }
+    let n = end_word(words, s);
+    if b == b'\n' {
+        Step::End(n)
+    } else {
+        Step::More(Scan { word: 0, count: n })
+    }
+}
+
+fn print_word(word: u32) {
+    io::print_hex(STDOUT_FILENO, word as u64, 8);
+    io::write_all(STDOUT_FILENO, b" ");
+}
+
+fn print_word_at(words: &[u32; 4096], i: usize) {
+    if i < 4096 {
+        print_word(words[i]);
+    }
+}
+
+// Prints a line that differs.
+pub fn print_line(words: &[u32; 4096], n: usize) {
+    let mut i = 0usize;
+    while i < n {
+        print_word_at(words, i);
+        i += 1;
+    }
+    io::write_all(STDOUT_FILENO, b"differs\n");
+}
