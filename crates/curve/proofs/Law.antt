@@ -78,7 +78,7 @@ is-curve : (c : Curve) → isCurve (floatsOf c) ≡ inLimits c
 unfolding isCurve floatsOf curveFrom cubicFrom pointFrom
 is-curve c = refl
 
--- THE LAW: where no row of the table holds, each of the records in the list afterwards passes refusal 9
+-- Where no row of the table holds, each of the records in the list afterwards passes refusal 9
 pub laid-passes : (l : List Float) (p : Params) (list : List Float) → firstOf (createRefusals l p (length list)) ≡ 0 → (k : ℕ) → k < pieceCount (length l / 3) p
     → isCurve (take floats (drop (floats * k) (listAfter l p list))) ≡ true
 unfolding pieceCount

@@ -1,6 +1,6 @@
 // Boxes and area: object_bound, world_bound (01: the hall box) and area.
 ghost use mathlib.Core.Path.{_≡_};
-ghost use Rattle.curve.specs.Bound.{boundOf, objectBound, rowWithin, matrixWithin, boundFrom, worldBoundOf, worldBound, areaOf, areaIn};
+ghost use Rattle.curve.specs.Bound.{boundOf, objectBound, rowWithin, matrixWithin, worldBoundOf, worldBound, areaOf, areaIn};
 use crate::curve::Curve;
 use crate::curve::Reading;
 use crate::curve::control_points;

@@ -1,11 +1,11 @@
 // create_curve_shape and create_curve (01: laying): the curves of all segments, into a lent list.
 ghost use mathlib.Core.Path.{_≡_};
-ghost use Prim.Native.Nat.{_+_, _*_, _/_, _≤_};
+ghost use Prim.Native.Nat.{_+_, _*_, _≤_};
 ghost use lib.ListN.{length};
 ghost use Rattle.curve.specs.List.{over};
 ghost use Rattle.curve.specs.Curve.{floats, floatsOf};
 ghost use Rattle.curve.specs.Basis.{strideOf};
-ghost use Rattle.curve.specs.Create.{ratio, partOf, partFloats, partCount, endWidth, segmentFloats, laidFloats, segmentCount, paramsOf, createdOf, listAfter};
+ghost use Rattle.curve.specs.Create.{ratio, partOf, partFloats, partCount, endWidth, segmentFloats, laidFloats, paramsOf, createdOf, listAfter};
 use crate::basis::segment;
 use crate::basis::stride;
 use crate::bezier::Cubic;

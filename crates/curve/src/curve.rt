@@ -135,7 +135,7 @@ pub fn width_at(c: Curve, u: f32) -> f32
     lerp(u, c.width0, c.width1)
 }
 
-pub fn floats_of(c: Curve) -> [f32; 16]
+pub fn floats_of(c: Curve) -> [f32; FLOATS]
     ensures { λ r. ⌜ r ≡ floatsOf c ⌝ }
 {
     [

@@ -1,0 +1,4 @@
+pub mod Below
+pub mod Best
+pub mod Pieces
+pub mod Walked

@@ -1,0 +1,3 @@
+pub mod Below
+pub mod Pieces
+pub mod Walk
