@@ -1,7 +1,10 @@
 // The oracle's lines, for the programs that run them: words in hexadecimal, and what they stand for.
+mod list;
 mod text;
 mod words;
 
+pub use list::fill;
+pub use list::hash;
 pub use text::Scan;
 pub use text::Step;
 pub use text::print_line;

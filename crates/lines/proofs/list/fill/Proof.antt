@@ -1,10 +1,10 @@
--- `replay::create::fill` is safe and ends. Assumes nothing.
+-- `lines::list::fill` is safe and ends. Assumes nothing.
 use mathlib.Core.Path.{_≡_}
 use borrow.Author.Needs.{needs}
 use Prim.Native.Nat.{_-_}
 use lib.ListN.{length}
-use Rattle.replay.proofs.create.fill.Statement.{statement}
-use Rattle.replay.proofs.create.fill.Tie as tie
+use Rattle.lines.proofs.list.fill.Statement.{statement}
+use Rattle.lines.proofs.list.fill.Tie as tie
 
 abbrev Inv-loop : tie.InvT-loop
 Inv-loop list₀ i₀ at₀ list i at = length list ≡ length list₀

@@ -1,9 +1,9 @@
--- `replay::create::hash` is safe and ends. Assumes nothing.
+-- `lines::list::hash` is safe and ends. Assumes nothing.
 use borrow.Author.Needs.{needs}
 use Prim.Native.Nat.{_-_}
 use lib.ListN.{length}
-use Rattle.replay.proofs.create.hash.Statement.{statement}
-use Rattle.replay.proofs.create.hash.Tie as tie
+use Rattle.lines.proofs.list.hash.Statement.{statement}
+use Rattle.lines.proofs.list.hash.Tie as tie
 
 abbrev Inv-loop : tie.InvT-loop
 Inv-loop list h₀ i₀ h i = Unit {0}
