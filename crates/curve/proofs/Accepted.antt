@@ -11,7 +11,7 @@ use lib.Ieee.{Float}
 use lib.ListN.{length}
 use Rattle.curve.specs.Basis.{strideOf}
 use Rattle.curve.specs.Curve.{floats, widthWithin}
-use Rattle.curve.specs.Create.{countWrong, segmentCount, partCount, pieceCount, allWithin, leastWidth, greatestWidth, limitWrong, limitRefusals, createRefusals}
+use Rattle.curve.specs.Create.{countWrong, segmentCount, partCount, curveCount, allWithin, leastWidth, greatestWidth, limitWrong, limitRefusals, createRefusals}
 use Rattle.curve.specs.Refusal.{Table, firstOf}
 use Rattle.curve.specs.declared.create.Params.{Params}
 use Rattle.curve.proofs.Counts.{segment-count-le}
@@ -84,7 +84,7 @@ pub record Accepted (l : List Float) (p : Params) (room : ℕ) : Type 0 where
   pub list : floats * (segmentCount (length l / 3) (p .degree) (p .basis) * partCount (p .splitdepth)) ≤ room
 
 pub accepted : (l : List Float) (p : Params) (room : ℕ) → firstOf (createRefusals l p room) ≡ 0 → Accepted l p room
-unfolding createRefusals limitRefusals limitWrong pieceCount
+unfolding createRefusals limitRefusals limitWrong curveCount
 accepted l p room e =
     let r1 = passed _ 0 _ e in
     let r2 = passed _ 1 _ (r1 .1) in

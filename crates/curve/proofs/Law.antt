@@ -1,5 +1,5 @@
 -- What the definitions of `specs/` mean: the laws that other crates and readers may rest on. Assumes nothing.
--- Every curve that create_curve_shape writes passes refusal 9, for every input that it accepts: `laid-passes`, and `answered-passes` by its answer.
+-- Every curve that create_curve_shape writes passes refusal 9, for every input that it accepts: `created-passes`, and `answered-passes` by its answer.
 use mathlib.Core.Path.{_≡_, refl, ap, _∙_}
 use mathlib.Core.Bool.{true}
 use mathlib.Core.List.{List, _++_}
@@ -19,10 +19,10 @@ use Rattle.curve.specs.List.{over, upTo}
 use Rattle.curve.specs.Refusal.{firstOf, told}
 use Rattle.curve.specs.Curve.{floats, pointFrom, cubicFrom, curveFrom, floatsOf, widthWithin, narrowest, widest, inLimits, isCurve}
 use Rattle.curve.specs.Basis.{strideOf, segmentAt}
-use Rattle.curve.specs.Create.{segmentCount, partCount, pieceCount, createRefusals, ratio, partOf, endWidth, partFloats, segmentFloats, laidFloats, createdOf, listAfter}
+use Rattle.curve.specs.Create.{segmentCount, partCount, curveCount, createRefusals, ratio, partOf, endWidth, partFloats, segmentFloats, createdFloats, createdOf, listAfter}
 use Rattle.curve.proofs.Accepted.{Accepted, accepted}
 use Rattle.curve.proofs.Counts.{within-points}
-use Rattle.curve.proofs.Laid.{length-floats, length-segment}
+use Rattle.curve.proofs.Lengths.{length-floats, length-segment}
 use Rattle.curve.proofs.Limits.{segment-within, width-lerp, umin-umax}
 use Rattle.curve.proofs.Lists.{upTo-at}
 
@@ -59,15 +59,15 @@ curve-passes l p room e seg i h g =
 -- ---- the list afterwards
 
 module _ (l : List Float) (p : Params) (list : List Float) (e : firstOf (createRefusals l p (length list)) ≡ 0) where
-  after : listAfter l p list ≡ upTo (segmentFloats l p (segments l p)) (segments l p) ++ drop (0 + length (laidFloats l p (segments l p))) list
-  unfolding listAfter over laidFloats
+  after : listAfter l p list ≡ upTo (segmentFloats l p (segments l p)) (segments l p) ++ drop (0 + length (createdFloats l p (segments l p))) list
+  unfolding listAfter over createdFloats
   after = rw e
 
   -- the record of part i of segment seg holds that curve
-  pub laid-at : (seg i : ℕ) → seg < segments l p → i < parts p → take floats (drop (floats * (seg * parts p + i)) (listAfter l p list)) ≡ floatsOf (curveOf l p seg i)
+  pub created-at : (seg i : ℕ) → seg < segments l p → i < parts p → take floats (drop (floats * (seg * parts p + i)) (listAfter l p list)) ≡ floatsOf (curveOf l p seg i)
   unfolding segmentFloats partFloats
-  laid-at seg i h g =
-      let s = upTo-at (segmentFloats l p (segments l p)) (parts p * floats) (segments l p) seg (drop (0 + length (laidFloats l p (segments l p))) list) (length-segment l p (segments l p)) h in
+  created-at seg i h g =
+      let s = upTo-at (segmentFloats l p (segments l p)) (parts p * floats) (segments l p) seg (drop (0 + length (createdFloats l p (segments l p))) list) (length-segment l p (segments l p)) h in
       let c = upTo-at (λ j. floatsOf (curveOf l p seg j)) floats (parts p) i (s .0) (λ j. length-floats (curveOf l p seg j)) g in
       rw (after, place seg (parts p) i, ← drop-drop (i * floats) (seg * (parts p * floats)), s .1, c .1) (take-at (floatsOf (curveOf l p seg i)) (c .0) floats (length-floats (curveOf l p seg i)))
     where
@@ -79,19 +79,19 @@ unfolding isCurve floatsOf curveFrom cubicFrom pointFrom
 is-curve c = refl
 
 -- Where no row of the table holds, each of the records in the list afterwards passes refusal 9
-pub laid-passes : (l : List Float) (p : Params) (list : List Float) → firstOf (createRefusals l p (length list)) ≡ 0 → (k : ℕ) → k < pieceCount (length l / 3) p
+pub created-passes : (l : List Float) (p : Params) (list : List Float) → firstOf (createRefusals l p (length list)) ≡ 0 → (k : ℕ) → k < curveCount (length l / 3) p
     → isCurve (take floats (drop (floats * k) (listAfter l p list))) ≡ true
-unfolding pieceCount
-laid-passes l p list e k h =
+unfolding curveCount
+created-passes l p list e k h =
     let P : 0 < parts p = unfold partCount in pow-pos (p .splitdepth) in
     let s = div-lt-iff-lt-mul P .1 h in
     let i = mod-lt k P in
-    rw (← div-add-mod' k (parts p), laid-at l p list e (k / parts p) (k % parts p) s i, is-curve) (curve-passes l p (length list) e (k / parts p) (k % parts p) s i)
+    rw (← div-add-mod' k (parts p), created-at l p list e (k / parts p) (k % parts p) s i, is-curve) (curve-passes l p (length list) e (k / parts p) (k % parts p) s i)
 
 -- the same for a caller: where it answers n curves, the first n records of the list pass
 pub answered-passes : (l : List Float) (p : Params) (list : List Float) (n : ℕ) → createdOf l p (length list) ≡ Curves n → (k : ℕ) → k < n → isCurve (take floats (drop (floats * k) (listAfter l p list))) ≡ true
 unfolding createdOf
-answered-passes l p list n a k h = let z = go (firstOf (createRefusals l p (length list))) (pieceCount (length l / 3) p) a in laid-passes l p list (z .0) k (rw (z .1) h)
+answered-passes l p list n a k h = let z = go (firstOf (createRefusals l p (length list))) (curveCount (length l / 3) p) a in created-passes l p list (z .0) k (rw (z .1) h)
   where
     go : (number m : ℕ) → told Refused number (Curves m) ≡ Curves n → (number ≡ 0) × (m ≡ n)
     go zero m a = (refl, cc)

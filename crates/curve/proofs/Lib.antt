@@ -3,7 +3,7 @@ pub mod Marked
 mod Accepted
 mod Counts
 mod Created
-mod Laid
+mod Lengths
 mod Limits
 mod Lists
 mod Reading

@@ -22,7 +22,7 @@ use Rattle.curve.specs.Basis.{elevated, bezierSegment, quadraticSpline, 
 use Rattle.curve.specs.Create.{partCount, allWithin, leastWidth, greatestWidth, ratio}
 use Rattle.curve.proofs.Within.{all-at}
 
--- ---- coordinates: the conversions keep laying's limit
+-- ---- coordinates: the conversions keep the points' limit
 
 -- with the weight t the lerp of the limit and the limit is the limit, and nothing overflows on the way
 record Keeps (t : Float) : Type 0 where

@@ -8,11 +8,11 @@ use Rattle.float.specs.Basic.{absOf}
 use Rattle.geometry.specs.Pbrt.{lerpOf}
 use Rattle.geometry.specs.Point.{pointLerp}
 use Rattle.curve.specs.Basis.{segmentAt, bezierSegment, elevated}
-use Rattle.curve.specs.Create.{countWrong, segmentCount, partCount, pieceCount, allWithin, limitWrong, limitRefusals, createRefusals, createdOf}
+use Rattle.curve.specs.Create.{countWrong, segmentCount, partCount, curveCount, allWithin, limitWrong, limitRefusals, createRefusals, createdOf}
 use Rattle.curve.specs.Curve.{pointFrom, within, widthWithin}
 use Rattle.curve.specs.Refusal.{firstOf}
 use Rattle.curve.specs.Marked.{instances}
 
 pub marked : map (λ (row : List ℕ × List ℕ). row .0) instances ≡ map (λ (row : List ℕ × List ℕ). row .1) instances
-unfolding createdOf createRefusals limitRefusals firstOf countWrong segmentCount partCount pieceCount allWithin limitWrong within widthWithin absOf segmentAt bezierSegment elevated pointFrom pointLerp lerpOf ofBits toBits ofFields odd lt eq le add sub mul div neg sum round units size span climb trailingZeros
+unfolding createdOf createRefusals limitRefusals firstOf countWrong segmentCount partCount curveCount allWithin limitWrong within widthWithin absOf segmentAt bezierSegment elevated pointFrom pointLerp lerpOf ofBits toBits ofFields odd lt eq le add sub mul div neg sum round units size span climb trailingZeros
 marked = refl

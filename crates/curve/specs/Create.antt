@@ -40,8 +40,8 @@ unfoldable pub partCount : ℕ → ℕ
 partCount splitdepth = 2 ^ splitdepth
 
 -- the curves of all segments of n points
-unfoldable pub pieceCount : ℕ → Params → ℕ
-pieceCount n p = segmentCount n (p .degree) (p .basis) * partCount (p .splitdepth)
+unfoldable pub curveCount : ℕ → Params → ℕ
+curveCount n p = segmentCount n (p .degree) (p .basis) * partCount (p .splitdepth)
 
 -- ---- refusals
 
@@ -64,7 +64,7 @@ limitWrong l w0 w1 = not (allWithin l && widthWithin w0 leastWidth greatestWidth
 unfoldable pub limitRefusals : List Float → Params → ℕ → Table
 limitRefusals l p room =
     let n = length l / 3 in
-    (ltb 256 n || ltb 1024 (pieceCount n p), 6) ∷ (limitWrong l (p .width0) (p .width1), 7) ∷ (ltb room (floats * pieceCount n p), 8) ∷ []
+    (ltb 256 n || ltb 1024 (curveCount n p), 6) ∷ (limitWrong l (p .width0) (p .width1), 7) ∷ (ltb room (floats * curveCount n p), 8) ∷ []
 
 -- 1 to 8
 unfoldable pub createRefusals : List Float → Params → ℕ → Table
@@ -101,16 +101,16 @@ segmentFloats l p n seg =
     partFloats cp (endWidth p n seg) (endWidth p n (seg + 1)) (partCount (p .splitdepth))
 
 -- all parts of n segments
-unfoldable pub laidFloats : List Float → Params → ℕ → List Float
-laidFloats l p n = upTo (segmentFloats l p n) n
+unfoldable pub createdFloats : List Float → Params → ℕ → List Float
+createdFloats l p n = upTo (segmentFloats l p n) n
 
 -- ---- the answer, and the list afterwards
 
 unfoldable pub createdOf : List Float → Params → ℕ → Created
-createdOf l p room = told Refused (firstOf (createRefusals l p room)) (Curves (pieceCount (length l / 3) p))
+createdOf l p room = told Refused (firstOf (createRefusals l p room)) (Curves (curveCount (length l / 3) p))
 
 -- A refusal leaves the list as it was. An acceptance writes the curves' floats from its start, and leaves the rest.
 unfoldable pub listAfter : List Float → Params → List Float → List Float
 listAfter l p list =
     told (λ number. list) (firstOf (createRefusals l p (length list)))
-    (over list 0 (laidFloats l p (segmentCount (length l / 3) (p .degree) (p .basis))))
+    (over list 0 (createdFloats l p (segmentCount (length l / 3) (p .degree) (p .basis))))

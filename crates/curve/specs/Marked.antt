@@ -15,8 +15,8 @@ replyOf (Curves n) = 0 ∷ n ∷ []
 replyOf (Refused k) = k ∷ []
 
 -- n points at the origin, in a list with room for 1,024 curves
-abbrev pub laid : ℕ → ℕ → ℕ → ℕ → List ℕ
-laid n degree basis splitdepth = replyOf (createdOf (replicate (3 * n) 0f) (paramsOf degree basis 0 1f 1f splitdepth) 16384)
+abbrev pub replyTo : ℕ → ℕ → ℕ → ℕ → List ℕ
+replyTo n degree basis splitdepth = replyOf (createdOf (replicate (3 * n) 0f) (paramsOf degree basis 0 1f 1f splitdepth) 16384)
 
 -- the inner x of the quadratic Bezier curve x = 0, 3, 6
 abbrev pub innerX : List ℕ
@@ -26,12 +26,12 @@ innerX =
 
 abbrev pub instances : List (List ℕ × List ℕ)
 instances =
-    (laid 1 3 0 0, 0 ∷ 0 ∷ [])  -- M1
-    ∷ (laid 5 3 0 0, 3 ∷ [])  -- M2
-    ∷ (laid 7 3 0 0, 0 ∷ 2 ∷ [])  -- M3
-    ∷ (laid 0 2 0 0, 3 ∷ [])  -- M4
-    ∷ (laid 3 3 1 0, 3 ∷ [])  -- M5
-    ∷ (laid 4 3 1 0, 0 ∷ 1 ∷ [])  -- M6
-    ∷ (laid 7 3 0 10, 6 ∷ [])  -- M7
+    (replyTo 1 3 0 0, 0 ∷ 0 ∷ [])  -- M1
+    ∷ (replyTo 5 3 0 0, 3 ∷ [])  -- M2
+    ∷ (replyTo 7 3 0 0, 0 ∷ 2 ∷ [])  -- M3
+    ∷ (replyTo 0 2 0 0, 3 ∷ [])  -- M4
+    ∷ (replyTo 3 3 1 0, 3 ∷ [])  -- M5
+    ∷ (replyTo 4 3 1 0, 0 ∷ 1 ∷ [])  -- M6
+    ∷ (replyTo 7 3 0 10, 6 ∷ [])  -- M7
     ∷ (innerX, 0x4000_0000 ∷ 0x4080_0000 ∷ [])  -- M8
     ∷ []

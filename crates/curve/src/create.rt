@@ -5,7 +5,7 @@ ghost use lib.ListN.{length};
 ghost use Rattle.curve.specs.List.{over};
 ghost use Rattle.curve.specs.Curve.{floats, floatsOf};
 ghost use Rattle.curve.specs.Basis.{strideOf};
-ghost use Rattle.curve.specs.Create.{ratio, partOf, partFloats, partCount, endWidth, segmentFloats, laidFloats, paramsOf, createdOf, listAfter};
+ghost use Rattle.curve.specs.Create.{ratio, partOf, partFloats, partCount, endWidth, segmentFloats, createdFloats, paramsOf, createdOf, listAfter};
 use crate::basis::segment;
 use crate::basis::stride;
 use crate::bezier::Cubic;
@@ -114,7 +114,7 @@ fn put_segments(list: &mut [f32], points: &[f32], p: Params, n: u16)
     requires { ⌜ (2 ≤ p .degree) × (p .degree ≤ 3) × (p .splitdepth ≤ 10) ⌝ }
     requires { ⌜ n * strideOf (p .degree) (p .basis) + 3 * p .degree + 3 ≤ length (now points) + strideOf (p .degree) (p .basis) ⌝ }
     requires { ⌜ floats * (n * partCount (p .splitdepth)) ≤ length (now list) ⌝ }
-    ensures { λ _. ⌜ now (list .exit) ≡ over (now (list .entry)) 0 (laidFloats (now (points .entry)) p n) ⌝ }
+    ensures { λ _. ⌜ now (list .exit) ≡ over (now (list .entry)) 0 (createdFloats (now (points .entry)) p n) ⌝ }
 {
     let step = stride(p.degree, p.basis);
     let size = FLOATS * part_count(p.splitdepth) as usize;

@@ -1,7 +1,7 @@
 // Refusals 1 to 8 of create_curve_shape, in their order.
 ghost use mathlib.Core.Path.{_≡_};
 ghost use Prim.Native.Nat.{_-_, _≤_};
-ghost use Rattle.curve.specs.Create.{countWrong, segmentCount, partCount, pieceCount, allWithin, limitWrong, limitRefusals, createRefusals};
+ghost use Rattle.curve.specs.Create.{countWrong, segmentCount, partCount, curveCount, allWithin, limitWrong, limitRefusals, createRefusals};
 ghost use Rattle.curve.specs.Refusal.{firstOf};
 use crate::create::Params;
 use crate::curve::FLOATS;
@@ -75,9 +75,9 @@ fn is_limit_wrong(points: &[f32], width0: f32, width1: f32) -> bool
     !(points_within & width0_within & width1_within)
 }
 
-fn piece_count(n: usize, p: Params) -> usize
+fn curve_count(n: usize, p: Params) -> usize
     requires { ⌜ (n ≤ 256) × (2 ≤ p .degree) × (p .splitdepth ≤ 10) ⌝ }
-    ensures { λ r. ⌜ r ≡ pieceCount n p ⌝ }
+    ensures { λ r. ⌜ r ≡ curveCount n p ⌝ }
 {
     segment_count(n, p.degree, p.basis) * part_count(p.splitdepth) as usize
 }
@@ -91,14 +91,14 @@ fn limit_refusal(points: &[f32], p: Params, room: usize) -> u8
     if n > 256 {
         return 6;
     }
-    let pieces = piece_count(n, p);
-    if pieces > 1024 {
+    let curves = curve_count(n, p);
+    if curves > 1024 {
         return 6;
     }
     if is_limit_wrong(points, p.width0, p.width1) {
         return 7;
     }
-    if room < FLOATS * pieces {
+    if room < FLOATS * curves {
         return 8;
     }
     0

@@ -30,16 +30,16 @@ unfoldable pub marked : List ℕ → ℕ → List ℕ
 marked ipiv k = set ipiv k (getD ipiv k 0 + 1)
 
 -- if ipiv[k] == 0 { let abs = minv[j][k].abs(); if abs >= big { big = abs; irow = j; icol = k } }, with mark = ipiv[k] and x = minv[j][k]
-unfoldable pub lookAt : Pivot → ℕ → ℕ → ℕ → Float → Pivot
-lookAt p mark j k x = cond (eqb mark 0) (cond (le (p .big) (absOf x)) (record { big = absOf x; row = j; col = k }) p) p
+unfoldable pub lookEntry : Pivot → ℕ → ℕ → ℕ → Float → Pivot
+lookEntry p mark j k x = cond (eqb mark 0) (cond (le (p .big) (absOf x)) (record { big = absOf x; row = j; col = k }) p) p
 
 -- for k in 0..4 { .. }
 unfoldable pub lookAlong : Pivot → Matrix → List ℕ → ℕ → Pivot
 lookAlong p m ipiv j =
-    let p0 = lookAt p (getD ipiv 0 0) j 0 (at m (4 * j)) in
-    let p1 = lookAt p0 (getD ipiv 1 0) j 1 (at m (4 * j + 1)) in
-    let p2 = lookAt p1 (getD ipiv 2 0) j 2 (at m (4 * j + 2)) in
-    lookAt p2 (getD ipiv 3 0) j 3 (at m (4 * j + 3))
+    let p0 = lookEntry p (getD ipiv 0 0) j 0 (at m (4 * j)) in
+    let p1 = lookEntry p0 (getD ipiv 1 0) j 1 (at m (4 * j + 1)) in
+    let p2 = lookEntry p1 (getD ipiv 2 0) j 2 (at m (4 * j + 2)) in
+    lookEntry p2 (getD ipiv 3 0) j 3 (at m (4 * j + 3))
 
 -- if ipiv[j] != 1 { for k in 0..4 { .. } }
 unfoldable pub lookRow : Pivot → Matrix → List ℕ → ℕ → Pivot

@@ -3,7 +3,7 @@
 // of two equal entries is, and a singular matrix is inverted onward, to infinities and NaNs.
 ghost use mathlib.Core.Path.{_≡_};
 ghost use Prim.Native.Nat.{_<_};
-ghost use Rattle.matrix.specs.Inverse.{Placed, AtMost, marked, lookAt, lookAlong, lookRow, pivotOf, swapAt, exchangeRows, swapRows, scaleRow, cleared, clearRow, eliminated, turned, exchangeColumns, swapColumns, inverseFlat};
+ghost use Rattle.matrix.specs.Inverse.{Placed, AtMost, marked, lookEntry, lookAlong, lookRow, pivotOf, swapAt, exchangeRows, swapRows, scaleRow, cleared, clearRow, eliminated, turned, exchangeColumns, swapColumns, inverseFlat};
 
 // The pivot found so far: big, irow and icol.
 pub struct Pivot {
@@ -15,7 +15,7 @@ pub struct Pivot {
 // The entry x at row j and column k, whose mark is ipiv[k].
 fn look(p: Pivot, mark: usize, j: usize, k: usize, x: f32) -> Pivot
     requires { ⌜ Placed p × (j < 4) × (k < 4) ⌝ }
-    ensures { λ r. ⌜ (r ≡ lookAt p mark j k x) × Placed r ⌝ }
+    ensures { λ r. ⌜ (r ≡ lookEntry p mark j k x) × Placed r ⌝ }
 {
     if mark == 0 {
         let a = float::abs(x);

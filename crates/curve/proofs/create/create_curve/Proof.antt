@@ -14,7 +14,7 @@ use Rattle.curve.specs.Curve.{floats, floatsOf}
 use Rattle.curve.specs.Create.{partOf, partFloats}
 use Rattle.curve.specs.declared.bezier.Cubic.{Cubic}
 use Rattle.curve.proofs.Lists.{over-nil, over-next, over-length}
-use Rattle.curve.proofs.Laid.{length-floats}
+use Rattle.curve.proofs.Lengths.{length-floats}
 use Rattle.curve.proofs.create.create_curve.Statement.{statement}
 use Rattle.curve.proofs.create.create_curve.Tie as tie
 
@@ -39,12 +39,12 @@ loop-again c =
     let d = now (s .args .list) in
     let f = part (s .args .cp) (s .args .width0) (s .args .width1) (s .args .n) in
     let i = l .loop .i in
-    let laid : called .put-part .last .0 ≡ over d (s .args .at) (upTo f (i + 1)) =
+    let written : called .put-part .last .0 ≡ over d (s .args .at) (upTo f (i + 1)) =
     called .put-part .ensures
     ∙ ap (λ (x : List Float). over x (l .loop .to) (f i)) (l .loop .inv .2)
     ∙ ap (λ (x : ℕ). over (over d (s .args .at) (upTo f i)) x (f i)) (l .loop .inv .1)
     ∙ over-next d (s .args .at) f floats i (λ j. length-floats _) (omega arith) in
-    (omega arith, omega arith, laid, ap length laid ∙ over-length d (s .args .at) f floats (i + 1) (λ j. length-floats _) (omega arith))
+    (omega arith, omega arith, written, ap length written ∙ over-length d (s .args .at) f floats (i + 1) (λ j. length-floats _) (omega arith))
 
 returns : tie.Need-returns Inv-loop μ-loop
 unfolding partFloats

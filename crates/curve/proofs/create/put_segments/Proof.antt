@@ -12,10 +12,10 @@ use lib.ListN.{length}
 use Rattle.curve.specs.List.{over, upTo}
 use Rattle.curve.specs.Curve.{floats}
 use Rattle.curve.specs.Basis.{strideOf}
-use Rattle.curve.specs.Create.{partCount, segmentFloats, laidFloats}
+use Rattle.curve.specs.Create.{partCount, segmentFloats, createdFloats}
 use Rattle.curve.proofs.Counts.{next, within-points, within-list, stride-le}
 use Rattle.curve.proofs.Lists.{over-nil, over-next, over-length}
-use Rattle.curve.proofs.Laid.{length-segment}
+use Rattle.curve.proofs.Lengths.{length-segment}
 use Rattle.curve.proofs.create.put_segments.Statement.{statement}
 use Rattle.curve.proofs.create.put_segments.Tie as tie
 
@@ -86,7 +86,7 @@ loop-again c =
     let d = now (s t .args .list) in
     let k = parts t * floats in
     let long : (j : ℕ) → length (f t j) ≡ k = λ j. length-segment _ _ _ j in
-    let laid : called .put-segment .last .0 ≡ over d 0 (upTo (f t) (seg t + 1)) =
+    let written : called .put-segment .last .0 ≡ over d 0 (upTo (f t) (seg t + 1)) =
     called .put-segment .ensures
     ∙ ap (λ (x : List Float). over x (l t .loop .to) (f t (seg t))) (i .3)
     ∙ ap (λ (x : ℕ). over (over d 0 (upTo (f t) (seg t))) x (f t (seg t))) (i .2 ∙ sym (zero-add (seg t * k)))
@@ -94,12 +94,12 @@ loop-again c =
       omega arith,
       omega (arith, next (seg t) (stride t), i .1, l t .before .before .stride .ensures),
       omega (arith, next (seg t) k, i .2, l t .before .part-count .ensures),
-      laid,
-      ap length laid ∙ over-length d 0 (f t) k (seg t + 1) long (omega (arith, list-in t, next (seg t) k)),
+      written,
+      ap length written ∙ over-length d 0 (f t) k (seg t + 1) long (omega (arith, list-in t, next (seg t) k)),
     )
 
 returns : tie.Need-returns Inv-loop μ-loop
-unfolding laidFloats
+unfolding createdFloats
 returns c =
     let l = c .before in
     let s = l .before .before .before .before .before in

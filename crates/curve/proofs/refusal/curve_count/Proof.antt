@@ -1,13 +1,13 @@
--- `curve::refusal::piece_count` meets its contract. Assumes nothing.
+-- `curve::refusal::curve_count` meets its contract. Assumes nothing.
 use mathlib.Core.Path.{sym, subst}
 use Prim.Native.Nat.{ℕ, _≤_, _^_}
 use native.Mathlib.Nat.{le-trans, lt-of-lt-of-le}
 use borrow.Author.Needs.{needs}
 use lib.Dec.{lit≤}
-use Rattle.curve.specs.Create.{pieceCount}
+use Rattle.curve.specs.Create.{curveCount}
 use Rattle.curve.proofs.Counts.{segment-count-le, part-count-le, product-lt}
-use Rattle.curve.proofs.refusal.piece_count.Statement.{statement}
-use Rattle.curve.proofs.refusal.piece_count.Tie as tie
+use Rattle.curve.proofs.refusal.curve_count.Statement.{statement}
+use Rattle.curve.proofs.refusal.curve_count.Tie as tie
 
 mul-result : tie.Need-mul-result
 mul-result c =
@@ -21,8 +21,8 @@ mul-result c =
     }
 
 returns : tie.Need-returns
-unfolding pieceCount
+unfolding curveCount
 returns c = rw (c .part-count .ensures, c .before .segment-count .ensures)
 
-pub piece-count-spec : {M : Type 1} → statement M
-piece-count-spec = tie.close (tie.spec (λ c κs. search needs) (λ c κs. search needs) (λ c. search needs) mul-result returns)
+pub curve-count-spec : {M : Type 1} → statement M
+curve-count-spec = tie.close (tie.spec (λ c κs. search needs) (λ c κs. search needs) (λ c. search needs) mul-result returns)
