@@ -1,7 +1,17 @@
 //! Stand-in for `num`: the traits that the supplied Rust names, for the types it uses them with.
-//! The float methods are f32's own.
+//! The float methods are f32's own; roots are counted.
 
+use std::cell::Cell;
 use std::ops::{Add, Div, Mul, Neg, Rem, Sub};
+
+thread_local! {
+    static ROOTS: Cell<u64> = const { Cell::new(0) };
+}
+
+/// How many roots were taken.
+pub fn roots() -> u64 {
+    ROOTS.get()
+}
 
 pub trait Zero: Sized + Add<Self, Output = Self> {
     fn zero() -> Self;
@@ -87,6 +97,8 @@ number!(isize, 0, 1);
 
 impl Float for f32 {
     fn sqrt(self) -> f32 {
+        ROOTS.set(ROOTS.get() + 1);
+
         f32::sqrt(self)
     }
 

@@ -2,7 +2,8 @@
 //! puts the supplied ones, unchanged, beside our stand-ins. What a renderer has and a curve does not use
 //! stands here as empty types: no value of them is ever made.
 
-/// Statistics are not kept, but for the last value of a distribution: for curves that is the depth.
+/// Statistics are not kept, but for the last value of a distribution: for curves that is the depth. What
+/// they report tells how far a call of `intersect` has come.
 #[macro_export]
 macro_rules! stat_int_distribution {
     ($title:expr, $name:ident) => {
@@ -15,6 +16,7 @@ macro_rules! stat_int_distribution {
 
             pub fn report_value(value: u64) {
                 LAST.store(value, Ordering::Relaxed);
+                $crate::progress::enter_walk();
             }
 
             pub fn last() -> u64 {
@@ -49,10 +51,76 @@ macro_rules! stat_percent {
     ($title:expr, $name:ident) => {
         mod $name {
             pub fn init() {}
-            pub fn inc_num() {}
-            pub fn inc_den() {}
+
+            pub fn inc_num() {
+                $crate::progress::end_record();
+            }
+
+            pub fn inc_den() {
+                $crate::progress::begin();
+            }
         }
     };
+}
+
+/// How far a call of `intersect` has come, told by the stand-ins that it calls on its way.
+pub mod progress {
+    use std::cell::Cell;
+
+    #[derive(Clone, Copy, Debug, PartialEq)]
+    pub enum Phase {
+        /// Before `recursive_intersect`.
+        Frame,
+        /// In it, and not in a record.
+        Walk,
+        /// From where a sliver's point is found to where its record is made.
+        Record,
+    }
+
+    thread_local! {
+        static PHASE: Cell<Phase> = const { Cell::new(Phase::Frame) };
+        static ROOTS_BEFORE: Cell<u64> = const { Cell::new(0) };
+        static RECORDS: Cell<u64> = const { Cell::new(0) };
+    }
+
+    /// `intersect` begins: it counts its calls first of all.
+    pub(crate) fn begin() {
+        PHASE.set(Phase::Frame);
+    }
+
+    /// It reports the depth just before the walk.
+    pub(crate) fn enter_walk() {
+        PHASE.set(Phase::Walk);
+        ROOTS_BEFORE.set(num::roots());
+        RECORDS.set(0);
+    }
+
+    /// The one sum of a point and a vector in the walk is the point of a hit: behind the crosswise vector,
+    /// before the normal and the outgoing direction.
+    pub(crate) fn sum() {
+        if PHASE.get() == Phase::Walk {
+            PHASE.set(Phase::Record);
+        }
+    }
+
+    /// A sliver counts as hit once its record is made.
+    pub(crate) fn end_record() {
+        PHASE.set(Phase::Walk);
+        RECORDS.set(RECORDS.get() + 1);
+    }
+
+    pub fn phase() -> Phase {
+        PHASE.get()
+    }
+
+    /// How many pieces the walk entered, if it came to its end. On entering a piece it takes the length of
+    /// the beam, and for a record three more lengths; there is no other root of `num` in it.
+    pub fn looked() -> u64 {
+        match PHASE.get() {
+            Phase::Frame => 0,
+            _ => num::roots() - ROOTS_BEFORE.get() - 3 * RECORDS.get(),
+        }
+    }
 }
 
 pub mod core {

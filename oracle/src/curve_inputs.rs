@@ -8,15 +8,15 @@ use crate::words::{put, Words};
 use pbrt::core::shape::Shape;
 use pbrt::core::transform::Transform;
 
-type Piece = [f32; 16];
+pub type Piece = [f32; 16];
 
 /// How far coordinates and widths go.
-struct Reach {
-    coordinate: f32,
-    width: f32,
+pub struct Reach {
+    pub coordinate: f32,
+    pub width: f32,
 }
 
-const PIECE: Reach = Reach {
+pub const PIECE: Reach = Reach {
     coordinate: 2_097_152.0,
     width: 2048.0,
 };
@@ -26,7 +26,8 @@ const LAID: Reach = Reach {
     width: 1024.0,
 };
 
-const ENTRY: f32 = 1_048_576.0;
+/// 01's limit on matrix entries.
+pub const ENTRY: f32 = 1_048_576.0;
 
 pub fn piece(rng: &mut Rng, words: &mut Words) {
     let piece = if rng.one_in(2) {
@@ -77,7 +78,7 @@ pub fn world_bound(rng: &mut Rng, words: &mut Words) {
     put(words, &m);
 }
 
-fn valid_piece(rng: &mut Rng) -> Piece {
+pub fn valid_piece(rng: &mut Rng) -> Piece {
     let mut piece = [0.0; 16];
     piece[..12].copy_from_slice(&points(rng, 4, &PIECE));
     piece[12..14].copy_from_slice(&widths(rng, &PIECE));
@@ -86,17 +87,21 @@ fn valid_piece(rng: &mut Rng) -> Piece {
     piece
 }
 
-/// One float, or umin and umax, at a limit, beyond it, or anything.
 fn spoilt_piece(rng: &mut Rng) -> Piece {
     let mut piece = valid_piece(rng);
+    spoil_piece(rng, &mut piece);
+
+    piece
+}
+
+/// One float, or umin and umax, at a limit, beyond it, or anything.
+pub fn spoil_piece(rng: &mut Rng, piece: &mut Piece) {
     match rng.below(4) {
         0 => piece[rng.below(12) as usize] = edge_coordinate(rng, &PIECE),
         1 => piece[12 + rng.below(2) as usize] = edge_width(rng, &PIECE),
         2 => piece[14..].copy_from_slice(&edge_parameters(rng)),
         _ => piece[rng.below(16) as usize] = rng.mixed(),
     }
-
-    piece
 }
 
 /// The coordinates of n points, of one sort and within reach; now and then degenerate.
@@ -170,7 +175,7 @@ fn widths(rng: &mut Rng, reach: &Reach) -> [f32; 2] {
 }
 
 /// umin and umax.
-fn parameters(rng: &mut Rng) -> [f32; 2] {
+pub fn parameters(rng: &mut Rng) -> [f32; 2] {
     let u = (rng.unit().abs(), rng.unit().abs());
     match rng.below(8) {
         // As laid.

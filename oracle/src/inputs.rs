@@ -311,12 +311,12 @@ fn small(rng: &mut Rng) -> Triple {
     std::array::from_fn(|_| rng.unit() * scale)
 }
 
-fn identity() -> Matrix {
+pub fn identity() -> Matrix {
     std::array::from_fn(|i| if i % 5 == 0 { 1.0 } else { 0.0 })
 }
 
 /// The rows of the identity, or of its negative, in some order.
-fn permutation(rng: &mut Rng) -> Matrix {
+pub fn permutation(rng: &mut Rng) -> Matrix {
     let mut order = [0, 1, 2, 3];
     for i in 1..4 {
         order.swap(i, rng.below(i as u32 + 1) as usize);
@@ -330,7 +330,7 @@ fn permutation(rng: &mut Rng) -> Matrix {
 }
 
 /// Turned, scaled (mirrored where a factor is negative) and moved.
-fn placement(rng: &mut Rng) -> Matrix {
+pub fn placement(rng: &mut Rng) -> Matrix {
     let q: [f64; 4] = std::array::from_fn(|_| rng.unit() as f64);
     let length = q.iter().map(|x| x * x).sum::<f64>().sqrt();
     let [x, y, z, w] = q.map(|x| x / length);

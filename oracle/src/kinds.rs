@@ -3,7 +3,7 @@
 use crate::limits::{self, ShapeParams};
 use crate::rng::Rng;
 use crate::words::{put, put_bounds, put_matrix, put_point, put_vector, Reader, Words};
-use crate::{curve_inputs, inputs};
+use crate::{beam, beam_inputs, curve_inputs, inputs};
 use pbrt::core::geometry::point::Point3f;
 use pbrt::core::geometry::ray::Ray;
 use pbrt::core::geometry::vector::{vec3_coordinate_system, Vector3f};
@@ -106,6 +106,13 @@ pub const KINDS: &[Kind] = &[
          status [pieces hash_high hash_low]",
         curve_inputs::create_curve_shape,
         create_curve_shape,
+    ),
+    kind(
+        "intersect",
+        "piece(16) object_to_world(16) world_to_object(16) reverse o(3) d(3) t_max time -> \
+         status [looked [t u v p(3) error(3) time wo(3) n(3) dpdu(3) dpdv(3)]]",
+        beam_inputs::intersect,
+        intersect,
     ),
 ];
 
@@ -241,6 +248,11 @@ fn create_curve_shape(line: &mut Reader, answer: &mut Words) {
     });
 }
 
+fn intersect(line: &mut Reader, answer: &mut Words) {
+    let (reply, _) = beam::checked(line.0);
+    answer.extend(reply.words());
+}
+
 /// 01's reply: the status, then what an acceptance carries.
 fn put_reply<T>(answer: &mut Words, reply: Result<T, u32>, put: impl Fn(&mut Words, T)) {
     match reply {
@@ -252,7 +264,7 @@ fn put_reply<T>(answer: &mut Words, reply: Result<T, u32>, put: impl Fn(&mut Wor
     }
 }
 
-/// The curve that a piece stands for. What is asked of it here does not read world_to_object.
+/// The curve that a piece stands for, world_to_object the identity.
 pub fn curve_of(piece: &[f32; 16], object_to_world: Transform) -> Curve {
     let point = |i: usize| Point3f::new(piece[3 * i], piece[3 * i + 1], piece[3 * i + 2]);
     let points = [point(0), point(1), point(2), point(3)];

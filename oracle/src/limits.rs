@@ -1,4 +1,4 @@
-//! 01's refusals 1 to 10, which the supplied Rust has not, or not in this order: a second reading of the
+//! 01's refusals 1 to 11, which the supplied Rust has not, or not in this order: a second reading of the
 //! paper, independent of the library's. Each function tells the first refusal that holds.
 
 use pbrt::core::transform::Matrix4x4;
@@ -76,5 +76,16 @@ pub fn matrix(matrix: &Matrix4x4) -> Result<(), u32> {
         Ok(())
     } else {
         Err(10)
+    }
+}
+
+/// Refusal 11, of origin, direction, t_max and time.
+pub fn ray(ray: &[f32; 8]) -> Result<(), u32> {
+    let t_max = ray[6];
+    let mut others = ray[..6].iter().chain(&ray[7..]);
+    if others.all(|x| x.is_finite() && x.abs() <= 1_048_576.0) && t_max >= 0.0 {
+        Ok(())
+    } else {
+        Err(11)
     }
 }

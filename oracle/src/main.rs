@@ -1,24 +1,34 @@
 //! Answers of the supplied Rust on seeded inputs, one line each. See README.md.
 
+mod beam;
+mod beam_inputs;
 mod curve_inputs;
+mod flat;
 mod inputs;
 mod kinds;
 mod limits;
+mod panics;
 mod rng;
+mod shares;
 mod words;
 
 use kinds::{Kind, KINDS};
 use rng::Rng;
 use std::io::Write;
-use std::panic::{catch_unwind, set_hook, PanicHookInfo};
+use std::panic::{catch_unwind, set_hook};
 use std::process::exit;
-use words::{Reader, Words};
+use words::{append, Reader, Words};
 
 fn main() {
+    set_hook(Box::new(panics::on_panic));
     let arguments: Vec<String> = std::env::args().skip(1).collect();
     match arguments.iter().map(String::as_str).collect::<Vec<_>>()[..] {
         ["--help"] => print!("{}", usage()),
         ["kinds"] => KINDS.iter().for_each(|kind| println!("{}", kind.name)),
+        ["shares", seed, n] => match (seed.parse(), n.parse()) {
+            (Ok(seed), Ok(n)) => shares::print(seed, n),
+            _ => wrong_usage(),
+        },
         [name, seed, n] => {
             let kind = KINDS.iter().find(|kind| kind.name == name);
             match (kind, seed.parse(), n.parse()) {
@@ -32,12 +42,13 @@ fn main() {
 
 fn usage() -> String {
     let mut text = String::from(
-        "oracle KIND SEED N   N lines of that kind: the inputs, then the answer of the Rust\n\
-         oracle kinds         the names of the kinds\n\
+        "oracle KIND SEED N     N lines of that kind: the inputs, then the answer of the Rust\n\
+         oracle kinds           the names of the kinds\n\
+         oracle shares SEED N   what the inputs of `intersect` reach, as shares of N lines\n\
          \n\
          Words of eight hexadecimal digits; a NaN is 7fc00000. A line without an answer is one on which\n\
-         the Rust panics because a length or a weight is zero. A status is 0 or the number of 01's refusal,\n\
-         behind which nothing follows.\n\n",
+         the Rust panics because a length or a weight is zero. A status is 0, or 1 for a miss, or the\n\
+         number of 01's refusal, behind which nothing follows.\n\n",
     );
     for kind in KINDS {
         text += &format!("{:20} {}\n", kind.name, kind.layout);
@@ -52,10 +63,9 @@ fn wrong_usage() -> ! {
 }
 
 fn lines(kind: &Kind, seed: u64, n: u64) {
-    set_hook(Box::new(on_panic));
     let mut rng = Rng::new(seed, kind.name);
     let mut inputs = Words::new();
-    let mut text = Vec::new();
+    let mut text = String::new();
     for _ in 0..n {
         inputs.clear();
         (kind.inputs)(&mut rng, &mut inputs);
@@ -64,7 +74,10 @@ fn lines(kind: &Kind, seed: u64, n: u64) {
             (kind.answer)(&mut Reader(&inputs), &mut answer);
             answer
         });
-        write_line(&mut text, &inputs, &answer.unwrap_or_default());
+        append(&mut text, &inputs);
+        append(&mut text, &answer.unwrap_or_default());
+        text.pop();
+        text.push('\n');
         if text.len() > 1 << 20 {
             flush(&mut text);
         }
@@ -72,34 +85,9 @@ fn lines(kind: &Kind, seed: u64, n: u64) {
     flush(&mut text);
 }
 
-/// The assertions on a nonzero length or weight are answers: nothing is printed. Any other panic is a
-/// fault of this program or of a stand-in.
-fn on_panic(info: &PanicHookInfo) {
-    let expected = match info.payload().downcast_ref::<String>() {
-        Some(message) => message.starts_with("assertion `left != right` failed"),
-        None => false,
-    };
-    if !expected {
-        eprintln!("{info}");
-        exit(1);
-    }
-}
-
-fn write_line(text: &mut Vec<u8>, inputs: &[u32], answer: &[u32]) {
-    const DIGITS: &[u8; 16] = b"0123456789abcdef";
-    for word in inputs.iter().chain(answer) {
-        for place in (0..8).rev() {
-            text.push(DIGITS[(word >> (4 * place)) as usize % 16]);
-        }
-        text.push(b' ');
-    }
-    text.pop();
-    text.push(b'\n');
-}
-
 /// A reader that stops reading ends the program.
-fn flush(text: &mut Vec<u8>) {
-    if std::io::stdout().write_all(text).is_err() {
+fn flush(text: &mut String) {
+    if std::io::stdout().write_all(text.as_bytes()).is_err() {
         exit(1);
     }
     text.clear();

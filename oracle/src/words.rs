@@ -41,6 +41,26 @@ pub fn put_matrix(words: &mut Words, m: &Matrix4x4) {
     put(words, m.m.as_flattened());
 }
 
+/// Eight lower-case hexadecimal digits each, one space between them.
+pub fn text(words: &[u32]) -> String {
+    let mut text = String::with_capacity(9 * words.len());
+    append(&mut text, words);
+    text.pop();
+
+    text
+}
+
+/// The same, with a space behind each.
+pub fn append(text: &mut String, words: &[u32]) {
+    const DIGITS: &[u8; 16] = b"0123456789abcdef";
+    for word in words {
+        for place in (0..8).rev() {
+            text.push(DIGITS[(word >> (4 * place)) as usize % 16] as char);
+        }
+        text.push(' ');
+    }
+}
+
 /// Takes what a line's inputs stand for, from left to right.
 pub struct Reader<'a>(pub &'a [u32]);
 

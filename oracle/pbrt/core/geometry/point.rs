@@ -153,6 +153,8 @@ impl<T: Add<U, Output = T>, U> Add<Vector3<U>> for Point3<T> {
     type Output = Point3<T>;
 
     fn add(self, v: Vector3<U>) -> Point3<T> {
+        crate::progress::sum();
+
         Point3::new(self.x + v.x, self.y + v.y, self.z + v.z)
     }
 }

@@ -1,0 +1,171 @@
+//! The kind `intersect`: what the Rust answers to a beam, checked by the flat reading of 01.
+
+use crate::flat;
+use crate::kinds::curve_of;
+use crate::limits;
+use crate::panics::{self, Site};
+use crate::words::{put, text, Reader, Words};
+use pbrt::core::geometry::point::Point3f;
+use pbrt::core::geometry::ray::Ray;
+use pbrt::core::geometry::vector::Vector3f;
+use pbrt::core::interaction::SurfaceInteraction;
+use pbrt::core::shape::{Shape, Shapes};
+use pbrt::core::transform::{Matrix4x4, Transform};
+use pbrt::progress::{self, Phase};
+use pbrt::shapes::curve::refinement_level;
+use std::panic::{catch_unwind, AssertUnwindSafe};
+use std::sync::Arc;
+
+pub struct Beam {
+    pub piece: [f32; 16],
+    pub object_to_world: [f32; 16],
+    pub world_to_object: [f32; 16],
+    pub reverse: bool,
+    /// Origin, direction, t_max, time.
+    pub ray: [f32; 8],
+}
+
+/// t, u, v, p, error, time, wo, n, dpdu, dpdv.
+pub type Record = [f32; 22];
+
+/// 01's answer: with a hit and a miss goes the count.
+pub enum Reply {
+    Hit(u32, Record),
+    Miss(u32),
+    Refused(u32),
+}
+
+impl Beam {
+    pub fn read(line: &mut Reader) -> Beam {
+        Beam {
+            piece: line.floats(),
+            object_to_world: line.floats(),
+            world_to_object: line.floats(),
+            reverse: line.word() == 1,
+            ray: line.floats(),
+        }
+    }
+
+    pub fn put(&self, words: &mut Words) {
+        put(words, &self.piece);
+        put(words, &self.object_to_world);
+        put(words, &self.world_to_object);
+        words.push(self.reverse as u32);
+        put(words, &self.ray);
+    }
+
+    pub fn ray(&self) -> Ray {
+        let [ox, oy, oz, dx, dy, dz, t_max, time] = self.ray;
+        let o = Point3f::new(ox, oy, oz);
+        let d = Vector3f::new(dx, dy, dz);
+
+        Ray::new(&o, &d, t_max, time, None, None)
+    }
+
+    fn limits(&self) -> Result<(), u32> {
+        limits::piece(&self.piece)?;
+        limits::matrix(&transform(&self.object_to_world).m)?;
+        limits::matrix(&transform(&self.world_to_object).m)?;
+        limits::ray(&self.ray)
+    }
+}
+
+impl Reply {
+    pub fn words(&self) -> Words {
+        let mut words = Words::new();
+        match self {
+            Reply::Hit(looked, record) => {
+                words.extend([0, *looked]);
+                put(&mut words, record);
+            }
+            Reply::Miss(looked) => words.extend([1, *looked]),
+            Reply::Refused(number) => words.push(*number),
+        }
+
+        words
+    }
+}
+
+/// What is asked of it here does not read its inverse.
+pub fn transform(entries: &[f32; 16]) -> Transform {
+    let m = Matrix4x4::from_row_slice(entries);
+
+    Transform::from_matrices(&m, &Matrix4x4::default())
+}
+
+/// The Rust's answer, and the flat reading where no limit of 01 forbids the call. Stops the program where
+/// they differ.
+pub fn checked(line: &[u32]) -> (Reply, Option<flat::Reading>) {
+    let beam = Beam::read(&mut Reader(line));
+    if let Err(refusal) = beam.limits() {
+        return (Reply::Refused(refusal), None);
+    }
+    let reply = intersect(&beam);
+    let depth = match progress::phase() {
+        Phase::Frame => None,
+        _ => Some(refinement_level::last()),
+    };
+    let reading = flat::read(&beam);
+    if reply.words() != reading.reply.words() || depth != reading.depth {
+        panic!(
+            "the flat reading differs\nline {}\nrust {} depth {depth:?}\nflat {} depth {:?}",
+            text(line),
+            text(&reply.words()),
+            text(&reading.reply.words()),
+            reading.depth,
+        );
+    }
+
+    (reply, Some(reading))
+}
+
+fn intersect(beam: &Beam) -> Reply {
+    let mut curve = curve_of(&beam.piece, transform(&beam.object_to_world));
+    curve.world_to_object = Arc::new(transform(&beam.world_to_object));
+    curve.reverse_orientation = beam.reverse;
+    let shape = Arc::new(Shapes::from(curve));
+    // The caller's old distance plays no part: of all distances zero might.
+    let mut t_hit = 0.0;
+    let mut isect = SurfaceInteraction::default();
+    let hit = catch_unwind(AssertUnwindSafe(|| {
+        let s = Some(shape.clone());
+        shape.intersect(&beam.ray(), &mut t_hit, &mut isect, false, s)
+    }));
+    let looked = progress::looked() as u32;
+    match hit {
+        Ok(true) => Reply::Hit(looked, record(t_hit, &isect)),
+        Ok(false) => Reply::Miss(looked),
+        Err(_) => Reply::Refused(refusal()),
+    }
+}
+
+/// By where the Rust panicked, and how far it had come.
+fn refusal() -> u32 {
+    match (progress::phase(), panics::last()) {
+        (Phase::Frame, Some(Site::Transform)) => 12,
+        (Phase::Frame, Some(Site::Vector)) => 13,
+        (Phase::Walk, Some(Site::Curve)) => 14,
+        (Phase::Walk, Some(Site::Vector)) => 15,
+        (Phase::Record, Some(Site::Vector)) => 16,
+        place => panic!("not a refusal of 01: {place:?}"),
+    }
+}
+
+fn record(t: f32, isect: &SurfaceInteraction) -> Record {
+    let SurfaceInteraction {
+        p,
+        time,
+        p_error,
+        wo,
+        n,
+        uv,
+        dpdu,
+        dpdv,
+        ..
+    } = isect;
+
+    [
+        t, uv.x, uv.y, p.x, p.y, p.z, p_error.x, p_error.y, p_error.z, *time, wo.x, wo.y, wo.z,
+        n.x, n.y, n.z, dpdu.x, dpdu.y, dpdu.z, dpdv.x, dpdv.y, dpdv.z,
+    ]
+}
