@@ -1,10 +1,10 @@
 pub mod Law
 pub mod Marked
+pub mod Reading
 mod Accepted
 mod Counts
 mod Created
 mod Lengths
 mod Limits
 mod Lists
-mod Reading
 mod Within

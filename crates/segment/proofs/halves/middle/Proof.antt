@@ -1,0 +1,13 @@
+-- `segment::halves::middle` meets its contract: each return rewrites by the facts on its way.
+-- Assumes nothing.
+use mathlib.Core.Path.{refl}
+use Rattle.segment.specs.Halves.{middleOf}
+use Rattle.segment.proofs.halves.middle.Statement.{statement}
+use Rattle.segment.proofs.halves.middle.Tie as tie
+
+returns : tie.Need-returns
+unfolding middleOf
+returns c = refl
+
+pub middle-spec : {M : Type 1} → statement M
+middle-spec = tie.close (tie.spec returns)

@@ -1,0 +1,158 @@
+-- The leaf: recursive_intersect at depth 0, and SurfaceInteraction::new. Definitions only.
+use mathlib.Core.Bool.{Bool, cond, _||_, _&&_}
+use lib.Ieee.{Float, lt, eq, neg}
+use Rattle.float.specs.Arith.{_⊕_, _⊖_, _⊗_, _⊘_, 0f, 1f, 2f, half, quarter}
+use Rattle.float.specs.Root.{sqrtOf}
+use Rattle.geometry.specs.declared.normal.Normal3f.{Normal3f}
+use Rattle.geometry.specs.declared.vector.Vector2f.{Vector2f}
+use Rattle.geometry.specs.declared.vector.Vector3f.{Vector3f}
+use Rattle.geometry.specs.declared.vector.Divided.{Divided}
+use Rattle.geometry.specs.declared.vector.Divided.the-variants.{Vector, ByZero}
+use Rattle.geometry.specs.Normal.{normalOf, normalScaled}
+use Rattle.geometry.specs.Pbrt.{lerpOf, clampOf}
+use Rattle.geometry.specs.Point.{difference2}
+use Rattle.geometry.specs.Ray.{pointAt}
+use Rattle.geometry.specs.Vector.{negated2, dot2, lengthSquared2, negated, scaled, normalized, crossOf}
+use Rattle.transform.specs.declared.camera.Transform.{Transform}
+use Rattle.transform.specs.Vector.{transformVector}
+use Rattle.curve.specs.declared.bezier.Cubic.{Cubic}
+use Rattle.curve.specs.declared.bezier.Eval.{Eval}
+use Rattle.curve.specs.Bezier.{evalOf}
+use Rattle.curve.specs.Curve.{widthAt}
+use Rattle.segment.specs.declared.frame.Context.{Context}
+use Rattle.segment.specs.declared.interaction.SurfaceInteraction.{SurfaceInteraction}
+use Rattle.segment.specs.declared.halves.Segment.{Segment}
+use Rattle.segment.specs.declared.leaf.Crossing.{Crossing}
+use Rattle.segment.specs.declared.leaf.Crossed.{Crossed}
+use Rattle.segment.specs.declared.leaf.Crossed.the-variants.{At, Nowhere}
+use Rattle.segment.specs.declared.leaf.Frame.{Frame}
+use Rattle.segment.specs.declared.leaf.Framing.{Framing}
+use Rattle.segment.specs.declared.leaf.Framing.the-variants as framing
+use Rattle.segment.specs.declared.leaf.Leaf.{Leaf}
+use Rattle.segment.specs.declared.leaf.Leaf.the-variants.{Passes, Fails, NoFrame}
+
+-- ---- the tests
+
+-- segment_dir
+unfoldable pub segmentDir : Cubic → Vector2f
+segmentDir cp = difference2 (record { x = cp .p3 .x; y = cp .p3 .y }) (record { x = cp .p0 .x; y = cp .p0 .y })
+
+-- (cp[1].y - cp[0].y) * -cp[0].y + cp[0].x * (cp[0].x - cp[1].x)
+unfoldable pub edgeStart : Cubic → Float
+edgeStart cp = (cp .p1 .y ⊖ cp .p0 .y) ⊗ neg (cp .p0 .y) ⊕ cp .p0 .x ⊗ (cp .p0 .x ⊖ cp .p1 .x)
+
+-- (cp[2].y - cp[3].y) * -cp[3].y + cp[3].x * (cp[3].x - cp[2].x)
+unfoldable pub edgeEnd : Cubic → Float
+edgeEnd cp = (cp .p2 .y ⊖ cp .p3 .y) ⊗ neg (cp .p3 .y) ⊕ cp .p3 .x ⊗ (cp .p3 .x ⊖ cp .p2 .x)
+
+-- w: (-Vector2f::new(cp[0].x, cp[0].y)).dot(&segment_dir) / denom
+unfoldable pub lineAt : Cubic → Vector2f → Float → Float
+lineAt cp dir denom = dot2 (negated2 (record { x = cp .p0 .x; y = cp .p0 .y })) dir ⊘ denom
+
+-- v, from the point and the derivative nearest the ray and the square of their distance
+unfoldable pub vAt : Eval → Float → Float → Float
+vAt pc dist2 width =
+    let part = sqrtOf dist2 ⊘ width in
+    cond (lt 0f (pc .d .x ⊗ neg (pc .p .y) ⊕ pc .p .x ⊗ pc .d .y)) (half ⊕ part) (half ⊖ part)
+
+-- the tests from `u` on: farther from the ray than half the width, behind it or beyond zmax
+unfoldable pub crossingAt : Context → Segment → Float → Crossed
+crossingAt c s w =
+    let u = clampOf (lerpOf w (s .u0) (s .u1)) (s .u0) (s .u1) in
+    let width = widthAt (c .curve) u in
+    let pc = evalOf (s .cp) (clampOf w 0f 1f) in
+    let dist2 = pc .p .x ⊗ pc .p .x ⊕ pc .p .y ⊗ pc .p .y in
+    cond (lt (width ⊗ width ⊗ quarter) dist2 || lt (pc .p .z) 0f || lt (c .zmax) (pc .p .z)) Nowhere
+    (At (record { t = pc .p .z ⊘ c .«ray_length»; u = u; v = vAt pc dist2 width }))
+
+-- all the tests, in the Rust's order
+unfoldable pub crossingOf : Context → Segment → Crossed
+crossingOf c s =
+    let dir = segmentDir (s .cp) in
+    let denom = lengthSquared2 dir in
+    cond (lt (edgeStart (s .cp)) 0f || lt (edgeEnd (s .cp)) 0f || eq denom 0f) Nowhere (crossingAt c s (lineAt (s .cp) dir denom))
+
+-- ---- the frame
+
+-- dpdu == Vector3f::default()
+unfoldable pub isZero : Vector3f → Bool
+isZero v = eq (v .x) 0f && eq (v .y) 0f && eq (v .z) 0f
+
+-- r2o.transform_vector(&(dpdv_plane.normalize() * hit_width)), where o2r.m_inv is r2o's matrix
+abbrev pub backFrom : Transform → Float → Divided → Divided
+backFrom o2r width (Vector v) = Vector (transformVector (o2r .«m_inv») (scaled v width))
+backFrom o2r width ByZero = ByZero
+
+-- dpdv
+unfoldable pub crosswiseOf : Transform → Vector3f → Float → Divided
+crosswiseOf o2r dpdu width =
+    let plane = transformVector (o2r .m) dpdu in
+    backFrom o2r width (normalized (record { x = neg (plane .y); y = plane .x; z = 0f }))
+
+-- -1.0
+abbrev pub minusOne : Float
+minusOne = neg 1f
+
+-- n, and n *= -1.0 where it turns
+unfoldable pub orientedOf : Vector3f → Bool → Normal3f
+orientedOf n flip = cond flip (normalScaled (normalOf n) minusOne) (normalOf n)
+
+abbrev pub withWo : Context → Vector3f → Vector3f → Vector3f → Divided → Framing
+withWo c dpdu dpdv n (Vector wo) = framing.Frame (record { dpdu = dpdu; dpdv = dpdv; n = orientedOf n (c .flip); wo = wo })
+withWo c dpdu dpdv n ByZero = framing.NoFrame 16
+
+-- wo: (-ray.d).normalize()
+unfoldable pub outwardOf : Context → Vector3f → Vector3f → Vector3f → Framing
+outwardOf c dpdu dpdv n = withWo c dpdu dpdv n (normalized (negated (c .ray .d)))
+
+abbrev pub withNormal : Context → Vector3f → Vector3f → Divided → Framing
+withNormal c dpdu dpdv (Vector n) = outwardOf c dpdu dpdv n
+withNormal c dpdu dpdv ByZero = framing.NoFrame 16
+
+-- n: dpdu.cross(dpdv).normalize()
+unfoldable pub alongOf : Context → Vector3f → Vector3f → Framing
+alongOf c dpdu dpdv = withNormal c dpdu dpdv (normalized (crossOf dpdu dpdv))
+
+abbrev pub withDpdv : Context → Vector3f → Divided → Framing
+withDpdv c dpdu (Vector dpdv) = alongOf c dpdu dpdv
+withDpdv c dpdu ByZero = framing.NoFrame 15
+
+-- The frame at u, or 14, 15 or 16, tried in that order. dpdu is the derivative of the segment's own four points.
+unfoldable pub frameOf : Context → Float → Framing
+frameOf c u =
+    let dpdu = evalOf (c .curve .cp) u .d in
+    cond (isZero dpdu) (framing.NoFrame 14) (withDpdv c dpdu (crosswiseOf (c .o2r) dpdu (widthAt (c .curve) u)))
+
+-- ---- the leaf
+
+abbrev pub withFraming : Crossing → Framing → Leaf
+withFraming at (framing.Frame f) = Passes at f
+withFraming at (framing.NoFrame k) = NoFrame k (at .t)
+
+unfoldable pub leafFrom : Context → Crossing → Leaf
+leafFrom c at = withFraming at (frameOf c (at .u))
+
+abbrev pub withCrossing : Context → Crossed → Leaf
+withCrossing c (At at) = leafFrom c at
+withCrossing c Nowhere = Fails
+
+-- A leaf's answer, from the segment and what the call holds fixed alone.
+unfoldable pub leafOf : Context → Segment → Leaf
+leafOf c s = withCrossing c (crossingOf c s)
+
+-- the hit's record
+unfoldable pub recordOf : Context → Crossing → Frame → SurfaceInteraction
+recordOf c at f =
+    let error = 2f ⊗ widthAt (c .curve) (at .u) in
+    record {
+      «t_hit» = at .t;
+      u = at .u;
+      v = at .v;
+      p = pointAt (c .ray) (at .t);
+      «p_error» = record { x = error; y = error; z = error };
+      time = c .ray .time;
+      wo = f .wo;
+      n = f .n;
+      dpdu = f .dpdu;
+      dpdv = f .dpdv;
+    }

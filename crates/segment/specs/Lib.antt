@@ -1,0 +1,5 @@
+pub mod Depth
+pub mod Frame
+pub mod Halves
+pub mod Leaf
+pub mod Marked

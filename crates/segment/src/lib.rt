@@ -1,0 +1,26 @@
+// A flat curve as a ray sees it: the ray's frame, how often the curve is cut in two, the segments'
+// halves and the tests that throw one out, and the leaf. Parts of `intersect` and recursive_intersect
+// of src/shapes/curve.rs of pbrt-rust, by their names and in their order of operations.
+mod depth;
+mod frame;
+mod halves;
+mod interaction;
+mod leaf;
+
+pub use depth::max_depth;
+pub use frame::Context;
+pub use frame::Framed;
+pub use frame::frame_curve;
+pub use halves::Halves;
+pub use halves::Segment;
+pub use halves::halve;
+pub use halves::is_thrown;
+pub use halves::is_whole_thrown;
+pub use interaction::SurfaceInteraction;
+pub use leaf::Crossing;
+pub use leaf::Frame;
+pub use leaf::Framing;
+pub use leaf::Leaf;
+pub use leaf::frame_at;
+pub use leaf::record_at;
+pub use leaf::run_leaf;
