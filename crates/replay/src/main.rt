@@ -3,11 +3,7 @@
 use libc::STDOUT_FILENO;
 
 mod compare;
-mod create;
-mod curve_kinds;
-mod geometry_kinds;
 mod scan;
-mod transform_kinds;
 
 use scan::Tally;
 
@@ -68,30 +64,28 @@ fn replay(kind: u8, path: &[u8]) {
 }
 
 fn replay_geometry() {
-    replay(geometry_kinds::SQRT, b"sqrt.txt");
-    replay(geometry_kinds::NARROW, b"narrow.txt");
-    replay(geometry_kinds::CROSS, b"cross.txt");
-    replay(geometry_kinds::NORMALIZE, b"normalize.txt");
-    replay(geometry_kinds::COORDINATE_SYSTEM, b"coordinate_system.txt");
+    replay(answers::SQRT, b"sqrt.txt");
+    replay(answers::NARROW, b"narrow.txt");
+    replay(answers::CROSS, b"cross.txt");
+    replay(answers::NORMALIZE, b"normalize.txt");
+    replay(answers::COORDINATE_SYSTEM, b"coordinate_system.txt");
 }
 
 fn replay_transform() {
-    replay(transform_kinds::INVERSE, b"inverse.txt");
-    replay(transform_kinds::TRANSFORM_POINT, b"transform_point.txt");
-    replay(
-        transform_kinds::TRANSFORM_RAY_ERROR,
-        b"transform_ray_error.txt",
-    );
-    replay(transform_kinds::TRANSFORM_BOUNDS, b"transform_bounds.txt");
-    replay(transform_kinds::SWAPS_HANDEDNESS, b"swaps_handedness.txt");
-    replay(transform_kinds::LOOK_AT, b"look_at.txt");
+    replay(answers::INVERSE, b"inverse.txt");
+    replay(answers::TRANSFORM_POINT, b"transform_point.txt");
+    replay(answers::TRANSFORM_RAY_ERROR, b"transform_ray_error.txt");
+    replay(answers::TRANSFORM_BOUNDS, b"transform_bounds.txt");
+    replay(answers::SWAPS_HANDEDNESS, b"swaps_handedness.txt");
+    replay(answers::LOOK_AT, b"look_at.txt");
 }
 
 fn replay_curve() {
-    replay(curve_kinds::AREA, b"area.txt");
-    replay(curve_kinds::OBJECT_BOUND, b"object_bound.txt");
-    replay(curve_kinds::WORLD_BOUND, b"world_bound.txt");
-    replay(curve_kinds::CREATE_CURVE_SHAPE, b"create_curve_shape.txt");
+    replay(answers::AREA, b"area.txt");
+    replay(answers::OBJECT_BOUND, b"object_bound.txt");
+    replay(answers::WORLD_BOUND, b"world_bound.txt");
+    replay(answers::CREATE_CURVE_SHAPE, b"create_curve_shape.txt");
+    replay(answers::INTERSECT, b"intersect.txt");
 }
 
 fn main() {

@@ -1,4 +1,4 @@
--- `replay::geometry_kinds::f64_of` is safe: without the sign's bit, the patterns above the infinity's are the NaNs'. Assumes nothing.
+-- `answers::geometry_kinds::f64_of` is safe: without the sign's bit, the patterns above the infinity's are the NaNs'. Assumes nothing.
 use mathlib.Core.Path.{sym, _∙_, subst}
 use mathlib.Core.Bool.{Bool, not}
 use borrow.Author.Needs.{needs}
@@ -6,8 +6,8 @@ use borrow.Author.Tests.{le-ltb}
 use lib.Dec.{T}
 use lib.Ieee.{binary64}
 use lib.Ieee.Bits.{nanBits-above}
-use Rattle.replay.proofs.geometry_kinds.f64_of.Statement.{statement}
-use Rattle.replay.proofs.geometry_kinds.f64_of.Tie as tie
+use Rattle.answers.proofs.geometry_kinds.f64_of.Statement.{statement}
+use Rattle.answers.proofs.geometry_kinds.f64_of.Tie as tie
 
 float-from-bits-result : tie.Need-float-from-bits-result
 float-from-bits-result c = subst (λ (t : Bool). T (not t)) (sym (nanBits-above binary64 _ ∙ le-ltb _ _ (c .if1 .left))) tt

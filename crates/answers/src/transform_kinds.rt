@@ -1,5 +1,5 @@
 // The library's answer to a line's inputs: matrices and transforms.
-use crate::compare::Size;
+use crate::size::Size;
 use geometry::Bounds3f;
 use geometry::Ray;
 use lines::float_at;

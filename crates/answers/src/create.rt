@@ -4,7 +4,7 @@
 ghost use mathlib.Core.Path.{_≡_};
 ghost use Prim.Native.Nat.{_≤_};
 ghost use lib.ListN.{length};
-use crate::compare::Size;
+use crate::size::Size;
 use curve::Created;
 use lines::float_at;
 

@@ -1,10 +1,10 @@
--- `replay::create::create_curve_shape` is safe: the parts that are lent are within their arrays. Assumes nothing.
+-- `answers::create::create_curve_shape` is safe: the parts that are lent are within their arrays. Assumes nothing.
 use mathlib.Core.Path.{sym}
 use native.Mathlib.Omega.{arith}
 use borrow.Author.Needs.{needs}
 use lib.Seq.{length-take-le}
-use Rattle.replay.proofs.create.create_curve_shape.Statement.{statement}
-use Rattle.replay.proofs.create.create_curve_shape.Tie as tie
+use Rattle.answers.proofs.create.create_curve_shape.Statement.{statement}
+use Rattle.answers.proofs.create.create_curve_shape.Tie as tie
 
 slice-aggregate-create : tie.Need-slice-aggregate-create
 slice-aggregate-create c = sym (length-take-le _ _ (omega (arith, c .before .before .points-of .ensures, c .before .before .before .if2 .taken)))

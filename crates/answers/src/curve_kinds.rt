@@ -1,6 +1,7 @@
 // The library's answer to a line's inputs: boxes, area and create_curve_shape.
-use crate::compare::Size;
 use crate::create::create_curve_shape;
+use crate::size::Size;
+use crate::size::refused;
 use curve::Bound;
 use curve::Measured;
 use lines::curve_of;
@@ -15,12 +16,6 @@ pub const OBJECT_BOUND: u8 = 12;
 pub const WORLD_BOUND: u8 = 13;
 
 pub const CREATE_CURVE_SHAPE: u8 = 14;
-
-// Where an operation refuses by a number, the answer's first word is that number, or 0.
-fn refused(out: &mut [u32; 96], inputs: usize, number: u8) -> Size {
-    out[0] = number as u32;
-    Size { inputs, answer: 1 }
-}
 
 fn area(words: &[u32; 4096], out: &mut [u32; 96]) -> Size {
     let curve = curve_of(words);

@@ -1,10 +1,10 @@
--- `replay::create::points_of` meets its contract. Assumes nothing.
+-- `answers::create::points_of` meets its contract. Assumes nothing.
 use mathlib.Core.Path.{_≡_}
 use borrow.Author.Needs.{needs}
 use Prim.Native.Nat.{_-_, _≤_}
 use lib.ListN.{length}
-use Rattle.replay.proofs.create.points_of.Statement.{statement}
-use Rattle.replay.proofs.create.points_of.Tie as tie
+use Rattle.answers.proofs.create.points_of.Statement.{statement}
+use Rattle.answers.proofs.create.points_of.Tie as tie
 
 abbrev Inv-loop : tie.InvT-loop
 Inv-loop words n points₀ i₀ points i = (i ≤ n) × (4096 ≡ length points)

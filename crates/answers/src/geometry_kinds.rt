@@ -1,5 +1,5 @@
 // The library's answer to a line's inputs: floats and vectors.
-use crate::compare::Size;
+use crate::size::Size;
 use geometry::CoordinateSystem;
 use geometry::Divided;
 use lines::float_at;

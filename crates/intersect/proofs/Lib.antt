@@ -1,0 +1,3 @@
+pub mod Law
+mod Flat
+mod Steps

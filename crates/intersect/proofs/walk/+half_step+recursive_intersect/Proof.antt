@@ -1,0 +1,99 @@
+-- The proof of the cycle of calls {half_step, recursive_intersect}. `half_step` calls `recursive_intersect` at its own depth, which calls `half_step` one depth lower: 2 * depth + 1 and 2 * depth.
+-- Assumes nothing.
+use Prim.Native.Nat.{ℕ, _+_, _*_, _<_}
+use native.Mathlib.Omega.{arith}
+use borrow.Fn.Kinds.{In}
+use borrow.Fn.PlainCycle.{Measures, is, falls, and}
+use Rattle.intersect.proofs.walk.half_step.Reads as half-step
+use Rattle.intersect.proofs.walk.half_step.Kinds as half-step-kinds
+use Rattle.intersect.proofs.walk.+half_step+recursive_intersect.Lts-half_step as half-step-lts
+use Rattle.intersect.proofs.walk.recursive_intersect.Reads as walk
+use Rattle.intersect.proofs.walk.recursive_intersect.Kinds as walk-kinds
+use Rattle.intersect.proofs.walk.+half_step+recursive_intersect.Lts-recursive_intersect as walk-lts
+use Rattle.segment.proofs.run_leaf.Reads as run-leaf-reads
+use Rattle.segment.proofs.halve.Reads as halve-reads
+use Rattle.segment.proofs.is_thrown.Reads as is-thrown-reads
+use Rattle.intersect.proofs.walk.enter.Reads as enter-reads
+use Rattle.intersect.proofs.walk.is_over.Reads as is-over-reads
+use Rattle.intersect.proofs.walk.settle.Reads as settle-reads
+use Rattle.intersect.proofs.Steps.{room-enter, room-low, room-high, half-out, half-in, walk-ends, walk-stops, walk-goes}
+use Rattle.intersect.proofs.walk.+half_step+recursive_intersect.{statement}
+use Rattle.intersect.proofs.walk.+half_step+recursive_intersect.Tie.{close}
+
+abbrev μ-half-step : Measures 0 half-step-kinds.ps ℕ
+μ-half-step κs a = 2 * a .1 .1 .0 + 1
+
+abbrev μ-walk : Measures 0 walk-kinds.ps ℕ
+μ-walk κs a = 2 * a .1 .1 .0
+
+abbrev half-step-at : ℕ → In 0 half-step-kinds.ps
+half-step-at t = and 0 half-step-kinds.ps (is 0 half-step-kinds.ps μ-half-step t) half-step.Pre
+
+abbrev half-step-below : ℕ → In 0 half-step-kinds.ps
+half-step-below t = and 0 half-step-kinds.ps (falls 0 half-step-kinds.ps _<_ μ-half-step t) half-step.Pre
+
+abbrev walk-at : ℕ → In 0 walk-kinds.ps
+walk-at t = and 0 walk-kinds.ps (is 0 walk-kinds.ps μ-walk t) walk.Pre
+
+abbrev walk-below : ℕ → In 0 walk-kinds.ps
+walk-below t = and 0 walk-kinds.ps (falls 0 walk-kinds.ps _<_ μ-walk t) walk.Pre
+
+-- what each is told of the functions that it calls
+abbrev half-step-calls : ℕ → half-step-lts.Claims
+half-step-calls t = (is-thrown-reads.Asked, is-thrown-reads.Learnt, walk-below t, walk.Post)
+
+abbrev walk-calls : ℕ → walk-lts.Claims
+walk-calls t = (
+  enter-reads.Asked,
+  enter-reads.Learnt,
+  run-leaf-reads.Asked,
+  run-leaf-reads.Learnt,
+  settle-reads.Asked,
+  settle-reads.Learnt,
+  halve-reads.Asked,
+  halve-reads.Learnt,
+  half-step-below t,
+  half-step.Post,
+  is-over-reads.Asked,
+  is-over-reads.Learnt,
+)
+
+half-step-walk-requires : (t : ℕ) → half-step-lts.Need-recursive-intersect-requires (half-step-calls t) (half-step-at t) half-step.Post
+half-step-walk-requires t c κs = (omega arith, c .before .before .pre .1)
+
+half-step-returns : (t : ℕ) → half-step-lts.Need-returns (half-step-calls t) (half-step-at t) half-step.Post
+half-step-returns t c = half-out _ _ _ _ _ (c .before .is-thrown .ensures) (c .if1 .taken)
+
+half-step-returns-2 : (t : ℕ) → half-step-lts.Need-returns-2 (half-step-calls t) (half-step-at t) half-step.Post
+half-step-returns-2 t c = half-in _ _ _ _ _ _ (c .before .before .is-thrown .ensures) (c .before .if1 .left) (c .recursive-intersect .ensures)
+
+walk-enter-requires : (t : ℕ) → walk-lts.Need-enter-requires (walk-calls t) (walk-at t) walk.Post
+walk-enter-requires t c κs = room-enter _ _ (c .pre .1)
+
+walk-half-step-requires : (t : ℕ) → walk-lts.Need-half-step-requires (walk-calls t) (walk-at t) walk.Post
+walk-half-step-requires t c κs = (omega arith, room-low _ _ _ (c .before .if1 .left) (c .before .before .before .pre .1) (c .before .before .enter .ensures))
+
+walk-half-step-requires-2 : (t : ℕ) → walk-lts.Need-half-step-requires-2 (walk-calls t) (walk-at t) walk.Post
+walk-half-step-requires-2 t c κs =
+    let halved = c .before .before .before in
+    (omega arith, room-high _ _ _ _ _ _ (halved .before .if1 .left) (halved .before .before .before .pre .1) (halved .before .before .enter .ensures) (c .before .before .half-step .ensures))
+
+walk-returns : (t : ℕ) → walk-lts.Need-returns (walk-calls t) (walk-at t) walk.Post
+walk-returns t c = walk-ends _ _ _ _ _ _ _ (c .before .before .if1 .taken) (c .before .before .before .enter .ensures) (c .before .run-leaf .ensures) (c .settle .ensures)
+
+walk-returns-2 : (t : ℕ) → walk-lts.Need-returns-2 (walk-calls t) (walk-at t) walk.Post
+walk-returns-2 t c =
+    let halved = c .before .before .before in
+    walk-stops _ _ _ _ _ _ _ _ (halved .before .if1 .left) (halved .before .before .enter .ensures) (halved .halve .ensures) (c .before .before .half-step .ensures) (c .before .is-over .ensures) (c .if2 .taken)
+
+walk-returns-3 : (t : ℕ) → walk-lts.Need-returns-3 (walk-calls t) (walk-at t) walk.Post
+walk-returns-3 t c =
+    let tested = c .before in
+    let halved = tested .before .before .before in
+    walk-goes _ _ _ _ _ _ _ _ (halved .before .if1 .left) (halved .before .before .enter .ensures) (halved .halve .ensures) (tested .before .before .half-step .ensures) (tested .before .is-over .ensures) (tested .if2 .left) _ (c .half-step2 .ensures)
+
+pub +half-step+recursive-intersect-spec : {M : Type 1} → statement M
++half-step+recursive-intersect-spec =
+    close μ-half-step μ-walk
+    (λ t. half-step-lts.spec (half-step-calls t) (half-step-at t) half-step.Post (λ c κs. tt) (half-step-walk-requires t) (half-step-returns t) (half-step-returns-2 t))
+    (λ t. walk-lts.spec (walk-calls t) (walk-at t) walk.Post (walk-enter-requires t) (λ c κs. tt) (λ c κs. tt) (λ c κs. tt) (λ c. omega arith) (walk-half-step-requires t) (λ c κs. tt) (λ c. omega arith) (walk-half-step-requires-2 t) (walk-returns t) (walk-returns-2 t) (walk-returns-3 t))

@@ -1,0 +1,138 @@
+// The ray and the flat curve: `intersect` of Curve in src/shapes/curve.rs of pbrt-rust, by its names
+// and in its order of operations. Refusals are numbers, and nothing is asked of a caller.
+ghost use mathlib.Core.Path.{_≡_};
+ghost use Rattle.intersect.specs.Intersect.{rayWithin, hitOf, finished, intersectSegment, intersectFramed, intersectWithin, intersectOf};
+
+mod walk;
+
+use curve::Curve;
+use curve::Reading;
+use curve::is_matrix_within;
+use curve::is_within;
+use curve::read;
+use geometry::Ray;
+use matrix::Matrix4x4;
+use segment::Context;
+use segment::Crossing;
+use segment::Framed;
+use segment::Framing;
+use segment::Segment;
+pub use segment::SurfaceInteraction;
+use segment::frame_at;
+use segment::frame_curve;
+use segment::is_whole_thrown;
+use segment::max_depth;
+use segment::record_at;
+use walk::Walked;
+use walk::recursive_intersect;
+
+// A hit with its record, or a miss, each with the number of segments looked at; or a refusal by its
+// number.
+pub enum Intersection {
+    Hit(SurfaceInteraction, u32),
+    Miss(u32),
+    Refused(u8),
+}
+
+// Whether a ray passes refusal 11.
+fn is_ray_within(r: Ray) -> bool
+    ensures { λ b. ⌜ b ≡ rayWithin r ⌝ }
+{
+    is_within(r.o.x, 1048576.0)
+        & is_within(r.o.y, 1048576.0)
+        & is_within(r.o.z, 1048576.0)
+        & is_within(r.d.x, 1048576.0)
+        & is_within(r.d.y, 1048576.0)
+        & is_within(r.d.z, 1048576.0)
+        & is_within(r.time, 1048576.0)
+        & (0.0 <= r.t_max)
+}
+
+// The hit at a crossing, after n segments.
+fn hit(c: Context, at: Crossing, n: u32) -> Intersection
+    ensures { λ r. ⌜ r ≡ hitOf c at n ⌝ }
+{
+    match frame_at(c, at.u) {
+        Framing::Frame(f) => Intersection::Hit(record_at(c, at, f), n),
+        Framing::NoFrame(number) => Intersection::Refused(number),
+    }
+}
+
+fn finish(c: Context, w: Walked) -> Intersection
+    ensures { λ r. ⌜ r ≡ finished c w ⌝ }
+{
+    match w {
+        Walked::Hit(at, n) => hit(c, at, n),
+        Walked::Miss(n) => Intersection::Miss(n),
+        Walked::Refused(number) => Intersection::Refused(number),
+    }
+}
+
+fn intersect_segment(c: Context, s: Segment) -> Intersection
+    ensures { λ r. ⌜ r ≡ intersectSegment c s ⌝ }
+{
+    if is_whole_thrown(c.curve, c.zmax, s) {
+        Intersection::Miss(0)
+    } else {
+        let cuts = max_depth(c.curve, s.cp);
+        finish(c, recursive_intersect(c, s, cuts, Walked::Miss(0)))
+    }
+}
+
+fn intersect_framed(f: Framed) -> Intersection
+    ensures { λ r. ⌜ r ≡ intersectFramed f ⌝ }
+{
+    match f {
+        Framed::Curve(c, s) => intersect_segment(c, s),
+        Framed::ZeroWeight => Intersection::Refused(12),
+        Framed::ZeroLength => Intersection::Refused(13),
+    }
+}
+
+fn intersect_within(
+    c: Curve,
+    object_to_world: Matrix4x4,
+    world_to_object: Matrix4x4,
+    reverse_orientation: bool,
+    ray: Ray,
+) -> Intersection
+    ensures { λ r. ⌜ r ≡ intersectWithin c «object_to_world» «world_to_object» «reverse_orientation» ray ⌝ }
+{
+    if is_matrix_within(object_to_world) & is_matrix_within(world_to_object) {
+        if is_ray_within(ray) {
+            intersect_framed(frame_curve(
+                c,
+                object_to_world,
+                world_to_object,
+                reverse_orientation,
+                ray,
+            ))
+        } else {
+            Intersection::Refused(11)
+        }
+    } else {
+        Intersection::Refused(10)
+    }
+}
+
+// Where a ray meets a curve (01: the beam).
+pub fn intersect(
+    curve: &[f32],
+    object_to_world: Matrix4x4,
+    world_to_object: Matrix4x4,
+    reverse_orientation: bool,
+    ray: Ray,
+) -> Intersection
+    ensures { λ r. ⌜ r ≡ intersectOf (now (curve .entry)) «object_to_world» «world_to_object» «reverse_orientation» ray ⌝ }
+{
+    match read(curve) {
+        Reading::Curve(c) => intersect_within(
+            c,
+            object_to_world,
+            world_to_object,
+            reverse_orientation,
+            ray,
+        ),
+        Reading::OffLimits => Intersection::Refused(9),
+    }
+}
