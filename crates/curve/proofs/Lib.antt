@@ -1,4 +1,5 @@
 pub mod Law
+pub mod Lists
 pub mod Marked
 pub mod Reading
 mod Accepted
@@ -6,5 +7,4 @@ mod Counts
 mod Created
 mod Lengths
 mod Limits
-mod Lists
 mod Within

@@ -19,7 +19,7 @@ module _ {A : Type 0} where
   head-length : (d : List A) (at : ℕ) (s : List A) → at + length s ≤ length d → length (take at d ++ s) ≡ at + length s
   head-length d at s h = length-append (take at d) s ∙ ap (λ (k : ℕ). k + length s) (length-take-le at d (omega arith))
 
-  length-over : (d : List A) (at : ℕ) (s : List A) → at + length s ≤ length d → length (over d at s) ≡ length d
+  pub length-over : (d : List A) (at : ℕ) (s : List A) → at + length s ≤ length d → length (over d at s) ≡ length d
   unfolding over
   length-over d at s h =
       length-append (take at d ++ s) (drop (at + length s) d)

@@ -1,0 +1,46 @@
+-- How large digits are. Assumes nothing.
+use mathlib.Core.Bool.{Bool, true, false, cond, _&&_}
+use mathlib.Core.Path.{_≡_, refl}
+use mathlib.Core.List.{List}
+use Prim.Native.Nat.{ℕ, _+_, _-_, _*_, _≤_}
+use native.Mathlib.Nat.{le-refl}
+use native.Mathlib.Omega.{arith}
+use borrow.Author.Tests.{leb-true, ltb-true}
+use lib.Dec.{ltb, leb}
+use lib.ListN.{length, getD}
+use Rattle.sheet.specs.Bytes.{digitOf, digitAt, fourAt}
+use Rattle.sheet.proofs.Below.{both}
+
+digit-le : (b : ℕ) → digitOf b ≤ 16
+unfolding digitOf
+digit-le b = go (ltb b 48) (leb b 57) (ltb b 97) (leb b 102) refl refl
+  where
+    go : (w x y z : Bool) → leb b 57 ≡ x → leb b 102 ≡ z → cond w 16 (cond x (b - 48) (cond y 16 (cond z (b - 87) 16))) ≤ 16
+    go true x y z e f = le-refl 16
+    go false true y z e f = omega (arith, leb-true b 57 e)
+    go false false true z e f = le-refl 16
+    go false false false true e f = omega (arith, leb-true b 102 f)
+    go false false false false e f = le-refl 16
+
+pub digit-at-le : (l : List ℕ) (i : ℕ) → digitAt l i ≤ 16
+unfolding digitAt
+digit-at-le l i = go (ltb i (length l))
+  where
+    go : (b : Bool) → cond b (digitOf (getD l i 0)) 16 ≤ 16
+    go true = digit-le (getD l i 0)
+    go false = le-refl 16
+
+pub four-le : (l : List ℕ) (at : ℕ) → fourAt l at ≤ 65536
+unfolding fourAt
+four-le l at = go (digitAt l at) (digitAt l (at + 1)) (digitAt l (at + 2)) (digitAt l (at + 3))
+  where
+    go : (a b c d : ℕ) → cond (ltb a 16 && ltb b 16 && ltb c 16 && ltb d 16) (((a * 16 + b) * 16 + c) * 16 + d) 65536 ≤ 65536
+    go a b c d = at-test (ltb a 16 && ltb b 16 && ltb c 16 && ltb d 16) refl
+      where
+        at-test : (t : Bool) → (ltb a 16 && ltb b 16 && ltb c 16 && ltb d 16) ≡ t → cond t (((a * 16 + b) * 16 + c) * 16 + d) 65536 ≤ 65536
+        at-test false e = le-refl 65536
+        at-test true e =
+            let h = both (ltb a 16 && ltb b 16 && ltb c 16) (ltb d 16) e in
+            let i = both (ltb a 16 && ltb b 16) (ltb c 16) (h .0) in
+            let j = both (ltb a 16) (ltb b 16) (i .0) in
+            omega (arith, ltb-true a 16 (j .0), ltb-true b 16 (j .1), ltb-true c 16 (i .1), ltb-true d 16 (h .1))

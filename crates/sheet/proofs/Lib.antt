@@ -1,0 +1,6 @@
+pub mod Law
+mod Below
+mod Digits
+mod Fields
+mod Floats
+mod Replies

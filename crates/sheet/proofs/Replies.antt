@@ -1,0 +1,140 @@
+-- What the functions that read a sheet return, and that their counts are small. Assumes nothing.
+use mathlib.Core.Bool.{Bool, true, false, cond, _&&_}
+use mathlib.Core.Path.{_≡_, sym, ap, ap₂, _∙_}
+use mathlib.Core.List.{List}
+use Prim.Native.Nat.{ℕ, zero, suc, _+_, _*_, _≤_}
+use native.Mathlib.Nat.{le-refl}
+use native.Mathlib.Omega.{arith}
+use lib.Dec.{ltb, eqb}
+use lib.Ieee.{Float, binary32, ofBits}
+use lib.ListN.{length, take}
+use lib.Seq.{take-at}
+use Rattle.curve.specs.Create.{paramsOf, createdOf, listAfter}
+use Rattle.curve.specs.List.{over, upTo}
+use Rattle.curve.specs.declared.create.Created.{Created}
+use Rattle.curve.proofs.Lists.{over-nil, over-length, length-upTo}
+use Rattle.sheet.specs.Ascii.{ascii}
+use Rattle.sheet.specs.Bytes.{runBelow}
+use Rattle.sheet.specs.Sheet.{rowsFrom, floatsFrom, mostPoints, mostRays, raysFrom, rayFloats, pointCount, pointsOf, raysAt, rayCount, raysOf, linesRight, isWhole, noRays, refusedWith, paramsIn, withCurves, headOf, sheetWithin, listWithin, sheetOf, listOf}
+use Rattle.sheet.specs.declared.head.Cursor.{Cursor}
+use Rattle.sheet.specs.declared.head.Head.{Head}
+use Rattle.sheet.specs.declared.Sheet.{Sheet}
+use Rattle.sheet.proofs.Floats.{length-floats}
+
+-- ---- points and rays
+
+-- no row
+no-floats : (l : List ℕ) (at : ℕ) (key : List ℕ) (n : ℕ) (out : List Float) → out ≡ over out 0 (floatsFrom l at key n 0)
+unfolding floatsFrom upTo
+no-floats l at key n out = sym (over-nil out 0)
+
+pub points-read : (l : List ℕ) (c : Cursor) (out out′ : List Float) (r : ℕ) → c .ok ≡ true
+    → (r ≡ rowsFrom l (c .at) (ascii "point=") 3 mostPoints) × (out′ ≡ over out 0 (floatsFrom l (c .at) (ascii "point=") 3 r))
+    → (r ≡ pointCount l c) × (out′ ≡ over out 0 (pointsOf l c))
+unfolding pointCount pointsOf
+points-read l c out out′ r e h =
+    let p : r ≡ cond (c .ok) (rowsFrom l (c .at) (ascii "point=") 3 mostPoints) 0 = h .0 ∙ ap (λ b. cond b (rowsFrom l (c .at) (ascii "point=") 3 mostPoints) 0) (sym e) in
+    (p, h .1 ∙ ap (λ k. over out 0 (floatsFrom l (c .at) (ascii "point=") 3 k)) p)
+
+pub points-none : (l : List ℕ) (c : Cursor) (out : List Float) → c .ok ≡ false → (0 ≡ pointCount l c) × (out ≡ over out 0 (pointsOf l c))
+unfolding pointCount pointsOf
+points-none l c out e =
+    let p : 0 ≡ cond (c .ok) (rowsFrom l (c .at) (ascii "point=") 3 mostPoints) 0 = ap (λ b. cond b (rowsFrom l (c .at) (ascii "point=") 3 mostPoints) 0) (sym e) in
+    (p, no-floats l (c .at) (ascii "point=") 3 out ∙ ap (λ k. over out 0 (floatsFrom l (c .at) (ascii "point=") 3 k)) p)
+
+pub rays-read : (l : List ℕ) (at points : ℕ) (out out′ : List Float) (r : ℕ) → ltb 0 points ≡ true
+    → (r ≡ rowsFrom l at (ascii "beam=") 8 mostRays) × (out′ ≡ over out 0 (floatsFrom l at (ascii "beam=") 8 r))
+    → (r ≡ raysFrom l at points) × (out′ ≡ over out 0 (rayFloats l at points))
+unfolding raysFrom rayFloats
+rays-read l at points out out′ r e h =
+    let p : r ≡ cond (ltb 0 points) (rowsFrom l at (ascii "beam=") 8 mostRays) 0 = h .0 ∙ ap (λ b. cond b (rowsFrom l at (ascii "beam=") 8 mostRays) 0) (sym e) in
+    (p, h .1 ∙ ap (λ k. over out 0 (floatsFrom l at (ascii "beam=") 8 k)) p)
+
+pub rays-none : (l : List ℕ) (at points : ℕ) (out : List Float) → ltb 0 points ≡ false → (0 ≡ raysFrom l at points) × (out ≡ over out 0 (rayFloats l at points))
+unfolding raysFrom rayFloats
+rays-none l at points out e =
+    let p : 0 ≡ cond (ltb 0 points) (rowsFrom l at (ascii "beam=") 8 mostRays) 0 = ap (λ b. cond b (rowsFrom l at (ascii "beam=") 8 mostRays) 0) (sym e) in
+    (p, no-floats l at (ascii "beam=") 8 out ∙ ap (λ k. over out 0 (floatsFrom l at (ascii "beam=") 8 k)) p)
+
+-- ---- the curves
+
+pub made : (h : Head) (n : ℕ) (rays points list list′ : List Float) (w0 w1 : Float) (created : Created) (room : ℕ) → w0 ≡ ofBits binary32 (h .width0) → w1 ≡ ofBits binary32 (h .width1)
+    → (created ≡ createdOf points (paramsOf (h .degree) (h .basis) (h .ty) w0 w1 (h .splitdepth)) room) × (list′ ≡ listAfter points (paramsOf (h .degree) (h .basis) (h .ty) w0 w1 (h .splitdepth)) list)
+    → (withCurves h n rays created ≡ withCurves h n rays (createdOf points (paramsIn h) room)) × (list′ ≡ listAfter points (paramsIn h) list)
+unfolding paramsIn
+made h n rays points list list′ w0 w1 created room e f g = (
+  ap (withCurves h n rays) (g .0 ∙ ap₂ (λ a b. createdOf points (paramsOf (h .degree) (h .basis) (h .ty) a b (h .splitdepth)) room) e f),
+  g .1 ∙ ap₂ (λ a b. listAfter points (paramsOf (h .degree) (h .basis) (h .ty) a b (h .splitdepth)) list) e f,
+)
+
+-- ---- counts are small
+
+run-most : (n : ℕ) (P : ℕ → Bool) → runBelow n P ≤ n
+unfolding runBelow
+run-most zero P = le-refl 0
+run-most (suc n) P = go (eqb (runBelow n P) n && P n) (run-most n P)
+  where
+    go : (b : Bool) → runBelow n P ≤ n → cond b (suc n) (runBelow n P) ≤ suc n
+    go true h = le-refl (suc n)
+    go false h = omega arith
+
+cond-most : (b : Bool) (x most : ℕ) → x ≤ most → cond b x 0 ≤ most
+cond-most true x most h = h
+cond-most false x most h = omega arith
+
+pub points-most : (l : List ℕ) (c : Cursor) (p : ℕ) → p ≡ pointCount l c → p ≤ 2048
+unfolding pointCount rowsFrom
+points-most l c p e = rw e (cond-most (c .ok) _ 2048 (run-most 2048 _))
+
+pub rays-most : (l : List ℕ) (at points n : ℕ) → n ≡ raysFrom l at points → n ≤ 64
+unfolding raysFrom rowsFrom
+rays-most l at points n e = rw e (cond-most (ltb 0 points) _ 64 (run-most 64 _))
+
+-- ---- the points that are lent
+
+points-length : (l : List ℕ) (c : Cursor) → length (pointsOf l c) ≡ pointCount l c * 3
+unfolding pointsOf floatsFrom
+points-length l c = length-upTo _ 3 (pointCount l c) (λ j. length-floats l _ 3)
+
+pub points-lent : (l : List ℕ) (c : Cursor) (d : List Float) (p : ℕ) → p ≡ pointCount l c → take (p * 3) (over d 0 (pointsOf l c)) ≡ pointsOf l c
+unfolding over
+points-lent l c d p e = take-at (pointsOf l c) _ (p * 3) (points-length l c ∙ ap (λ k. k * 3) (sym e))
+
+-- they are within the array
+pub points-room : (l : List ℕ) (c : Cursor) (d out : List Float) (p : ℕ) → p ≡ pointCount l c → out ≡ over d 0 (pointsOf l c) → 6144 ≤ length d → p * 3 ≤ length out
+unfolding pointsOf floatsFrom
+points-room l c d out p e q room =
+    let m = points-most l c p e in
+    let long = over-length d 0 _ 3 (pointCount l c) (λ j. length-floats l _ 3) (omega (arith, e)) in
+    omega (arith, ap length q ∙ long)
+
+-- ---- a sheet that is not too long
+
+module _ (l : List ℕ) (h : Head) (p n : ℕ) (rays : List Float) (e : h ≡ headOf l) (f : p ≡ pointCount l (h .cursor))
+    (g : (n ≡ raysFrom l (h .cursor .at + p * 33) p) × (rays ≡ over noRays 0 (rayFloats l (h .cursor .at + p * 33) p))) where
+  -- the test
+  whole-is : isWhole l (headOf l .cursor) ≡ (ltb 0 p && eqb (h .cursor .at + p * 33 + n * 77) (length l))
+  unfolding isWhole raysAt rayCount
+  whole-is = rw (← e, ← f, ← g .0)
+
+  pub within-whole : (list list′ points : List Float) (room : ℕ) (r : Sheet) → (ltb 0 p && eqb (h .cursor .at + p * 33 + n * 77) (length l)) ≡ true → points ≡ pointsOf l (h .cursor)
+      → (r ≡ withCurves h n rays (createdOf points (paramsIn h) room)) × (list′ ≡ listAfter points (paramsIn h) list)
+      → (r ≡ sheetWithin l room) × (list′ ≡ listWithin l list)
+  unfolding sheetWithin listWithin raysAt rayCount raysOf
+  within-whole list list′ points room r t q k =
+      (rw (whole-is, t, ← e, ← f, ← g .0, ← g .1, ← q) (k .0), rw (whole-is, t, ← e, ← q) (k .1))
+
+  pub within-wrong : (list : List Float) (room : ℕ) (r : Sheet) → (ltb 0 p && eqb (h .cursor .at + p * 33 + n * 77) (length l)) ≡ false
+      → r ≡ refusedWith 17 (h .cursor .lines + p + n + 1) → (r ≡ sheetWithin l room) × (list ≡ listWithin l list)
+  unfolding sheetWithin listWithin linesRight raysAt rayCount
+  within-wrong list room r t k = (rw (whole-is, t, ← e, ← f, ← g .0) k, rw (whole-is, t))
+
+-- ---- any sheet
+
+pub too-long : (l : List ℕ) (list : List Float) (room : ℕ) (r : Sheet) → ltb 65536 (length l) ≡ true → r ≡ refusedWith 18 0 → (r ≡ sheetOf l room) × (list ≡ listOf l list)
+unfolding sheetOf listOf
+too-long l list room r t k = (rw t k, rw t)
+
+pub not-too-long : (l : List ℕ) (list list′ : List Float) (room : ℕ) (r : Sheet) → ltb 65536 (length l) ≡ false → (r ≡ sheetWithin l room) × (list′ ≡ listWithin l list) → (r ≡ sheetOf l room) × (list′ ≡ listOf l list)
+unfolding sheetOf listOf
+not-too-long l list list′ room r t k = (rw t (k .0), rw t (k .1))

@@ -1,0 +1,85 @@
+-- The lines of a belt sheet (01: Belt sheet), by the place at which they start. Definitions only.
+use Prim.Native.Nat.{ℕ, zero, suc, _+_, _*_}
+use mathlib.Core.Bool.{Bool, cond, _&&_}
+use mathlib.Core.List.{List, [], _∷_}
+use lib.Dec.{eqb, ltb}
+use lib.Ieee.{Float, binary32, ofBits}
+use lib.ListN.{length}
+use Rattle.sheet.specs.Ascii.{ascii}
+use Rattle.sheet.specs.Bytes.{allBelow, byteIs, standsAt, digitAt, isWord, wordAt}
+use Rattle.sheet.specs.declared.line.Line.{Line}
+use Rattle.sheet.specs.declared.line.Line.the-variants.{Value, Wrong}
+
+abbrev pub lineFeed : ℕ
+lineFeed = 10
+
+abbrev pub comma : ℕ
+comma = 44
+
+-- ---- a line of the head: its value, and the place behind its LF
+
+-- one or two decimal digits and LF
+unfoldable pub decimalAt : List ℕ → ℕ → Line
+decimalAt l at =
+    let a = digitAt l at in
+    let b = digitAt l (at + 1) in
+    cond (ltb a 10 && byteIs l (at + 1) lineFeed) (Value a (at + 2))
+    (cond (ltb a 10 && ltb b 10 && byteIs l (at + 2) lineFeed) (Value (a * 10 + b) (at + 3)) Wrong)
+
+-- a key, a decimal number and LF
+unfoldable pub decimalLine : List ℕ → ℕ → List ℕ → Line
+decimalLine l at key = cond (standsAt l at key) (decimalAt l (at + length key)) Wrong
+
+-- eight hexadecimal digits and LF
+unfoldable pub wordLineAt : List ℕ → ℕ → Line
+wordLineAt l at = cond (isWord l at && byteIs l (at + 8) lineFeed) (Value (wordAt l at) (at + 9)) Wrong
+
+-- a key, eight hexadecimal digits and LF
+unfoldable pub wordLine : List ℕ → ℕ → List ℕ → Line
+wordLine l at key = cond (standsAt l at key) (wordLineAt l (at + length key)) Wrong
+
+-- one of two whole lines, which stand for 0 and 1
+unfoldable pub eitherLine : List ℕ → ℕ → List ℕ → List ℕ → Line
+eitherLine l at first second =
+    cond (standsAt l at first) (Value 0 (at + length first)) (cond (standsAt l at second) (Value 1 (at + length second)) Wrong)
+
+-- type: flat, ribbon or cylinder
+unfoldable pub typeLine : List ℕ → ℕ → Line
+typeLine l at =
+    cond (standsAt l at (ascii "type=cylinder\n")) (Value 2 (at + 14)) (eitherLine l at (ascii "type=flat\n") (ascii "type=ribbon\n"))
+
+-- the seven lines of the head, by number
+unfoldable pub headLine : List ℕ → ℕ → ℕ → Line
+headLine l number at =
+    cond (eqb number 0) (decimalLine l at (ascii "degree="))
+    (cond (eqb number 1) (eitherLine l at (ascii "basis=bezier\n") (ascii "basis=bspline\n"))
+    (cond (eqb number 2) (typeLine l at)
+    (cond (eqb number 3) (wordLine l at (ascii "width0="))
+    (cond (eqb number 4) (wordLine l at (ascii "width1="))
+    (cond (eqb number 5) (decimalLine l at (ascii "splitdepth="))
+    (eitherLine l at (ascii "reverse=0\n") (ascii "reverse=1\n")))))))
+
+-- ---- a row of floats: a key, and n times eight hexadecimal digits, with commas between and LF at the end
+
+-- what stands behind float i of n
+unfoldable pub separator : ℕ → ℕ → ℕ
+separator n i = cond (eqb (i + 1) n) lineFeed comma
+
+unfoldable pub isFloats : List ℕ → ℕ → ℕ → Bool
+isFloats l at n = allBelow n (λ i. isWord l (at + i * 9) && byteIs l (at + i * 9 + 8) (separator n i))
+
+unfoldable pub isRow : List ℕ → ℕ → List ℕ → ℕ → Bool
+isRow l at key n = standsAt l at key && isFloats l (at + length key) n
+
+-- how many bytes a row has
+unfoldable pub rowSize : List ℕ → ℕ → ℕ
+rowSize key n = length key + n * 9
+
+-- the float that stands at a place
+unfoldable pub floatAt : List ℕ → ℕ → Float
+floatAt l at = ofBits binary32 (wordAt l at)
+
+-- the n floats whose digits start at a place, with one byte between
+unfoldable pub floatsAt : List ℕ → ℕ → ℕ → List Float
+floatsAt l at zero = []
+floatsAt l at (suc n) = floatAt l at ∷ floatsAt l (at + 9) n

@@ -1,0 +1,147 @@
+-- The belt sheet: its head, then one or more points, then up to 64 rays, and its reply. Definitions only.
+use Prim.Native.Nat.{ℕ, _+_, _*_}
+use mathlib.Core.Bool.{Bool, true, false, cond, _&&_}
+use mathlib.Core.List.{List}
+use lib.Dec.{eqb, ltb}
+use lib.Ieee.{Float, binary32, ofBits}
+use lib.ListN.{length, replicate}
+use Rattle.float.specs.Arith.{0f}
+use Rattle.curve.specs.Create.{paramsOf, createdOf, listAfter}
+use Rattle.curve.specs.List.{over, upTo}
+use Rattle.curve.specs.declared.create.Params.{Params}
+use Rattle.curve.specs.declared.create.Created.{Created}
+use Rattle.curve.specs.declared.create.Created.the-variants as created
+use Rattle.sheet.specs.Ascii.{ascii}
+use Rattle.sheet.specs.Bytes.{runBelow}
+use Rattle.sheet.specs.Grammar.{headLine, isRow, rowSize, floatsAt}
+use Rattle.sheet.specs.declared.line.Line.{Line}
+use Rattle.sheet.specs.declared.line.Line.the-variants.{Value, Wrong}
+use Rattle.sheet.specs.declared.head.Cursor.{Cursor}
+use Rattle.sheet.specs.declared.head.Field.{Field}
+use Rattle.sheet.specs.declared.head.Head.{Head}
+use Rattle.sheet.specs.declared.Reply.the-variants.{Accepted, Refused}
+use Rattle.sheet.specs.declared.Sheet.{Sheet}
+
+-- ---- the head
+
+-- The cursor after a line: behind it with its value, or where it was. `lines` is how many lines were right.
+abbrev pub advanced : Cursor → ℕ → Line → Field
+advanced c number (Value v next) = record { cursor = record { at = next; lines = number + 1; ok = true }; value = v }
+advanced c number Wrong = record { cursor = record { at = c .at; lines = number; ok = false }; value = 0 }
+
+-- line `number` of the head, unless one before it was wrong
+unfoldable pub fieldOf : List ℕ → ℕ → Cursor → Field
+fieldOf l number c = cond (c .ok) (advanced c number (headLine l number (c .at))) (record { cursor = c; value = 0 })
+
+unfoldable pub startOf : Cursor
+startOf = record { at = 0; lines = 0; ok = true }
+
+-- the seven lines in their order
+unfoldable pub headOf : List ℕ → Head
+headOf l =
+    let degree = fieldOf l 0 startOf in
+    let basis = fieldOf l 1 (degree .cursor) in
+    let ty = fieldOf l 2 (basis .cursor) in
+    let width0 = fieldOf l 3 (ty .cursor) in
+    let width1 = fieldOf l 4 (width0 .cursor) in
+    let splitdepth = fieldOf l 5 (width1 .cursor) in
+    let reverse = fieldOf l 6 (splitdepth .cursor) in
+    record {
+      cursor = reverse .cursor;
+      degree = degree .value;
+      basis = basis .value;
+      ty = ty .value;
+      width0 = width0 .value;
+      width1 = width1 .value;
+      splitdepth = splitdepth .value;
+      reverse = reverse .value;
+    }
+
+-- ---- points and rays
+
+-- how many rows follow each other from a place on, at most so many
+unfoldable pub rowsFrom : List ℕ → ℕ → List ℕ → ℕ → ℕ → ℕ
+rowsFrom l at key n most = runBelow most (λ j. isRow l (at + j * rowSize key n) key n)
+
+-- the floats of the first m of them
+unfoldable pub floatsFrom : List ℕ → ℕ → List ℕ → ℕ → ℕ → List Float
+floatsFrom l at key n m = upTo (λ j. floatsAt l (at + j * rowSize key n + length key) n) m
+
+-- how many floats there is room for: 65,536 bytes hold fewer than 2,048 points, and there are at most 64 rays
+abbrev pub mostPoints : ℕ
+mostPoints = 2048
+
+abbrev pub mostRays : ℕ
+mostRays = 64
+
+-- the rays (01: beams) that start at a place behind so many points, and there is none where there is no point
+unfoldable pub raysFrom : List ℕ → ℕ → ℕ → ℕ
+raysFrom l at points = cond (ltb 0 points) (rowsFrom l at (ascii "beam=") 8 mostRays) 0
+
+unfoldable pub rayFloats : List ℕ → ℕ → ℕ → List Float
+rayFloats l at points = floatsFrom l at (ascii "beam=") 8 (raysFrom l at points)
+
+module _ (l : List ℕ) (c : Cursor) where
+  -- the points start behind the head, and there is none where the head is wrong
+  unfoldable pub pointCount : ℕ
+  pointCount = cond (c .ok) (rowsFrom l (c .at) (ascii "point=") 3 mostPoints) 0
+
+  unfoldable pub pointsOf : List Float
+  pointsOf = floatsFrom l (c .at) (ascii "point=") 3 pointCount
+
+  -- the rays start behind the points
+  unfoldable pub raysAt : ℕ
+  raysAt = c .at + pointCount * 33
+
+  unfoldable pub rayCount : ℕ
+  rayCount = raysFrom l raysAt pointCount
+
+  unfoldable pub raysOf : List Float
+  raysOf = rayFloats l raysAt pointCount
+
+  -- how many lines are right, from the first on
+  unfoldable pub linesRight : ℕ
+  linesRight = c .lines + pointCount + rayCount
+
+  -- nothing is missing, and nothing follows
+  unfoldable pub isWhole : Bool
+  isWhole = ltb 0 pointCount && eqb (raysAt + rayCount * 77) (length l)
+
+-- ---- the reply
+
+-- 512 floats, all 0
+abbrev pub noRays : List Float
+noRays = replicate 512 0f
+
+unfoldable pub refusedWith : ℕ → ℕ → Sheet
+refusedWith number line = record { reply = Refused number line; rays = noRays }
+
+unfoldable pub paramsIn : Head → Params
+paramsIn h = paramsOf (h .degree) (h .basis) (h .ty) (ofBits binary32 (h .width0)) (ofBits binary32 (h .width1)) (h .splitdepth)
+
+-- what create_curve_shape makes of it (01: laying)
+abbrev pub withCurves : Head → ℕ → List Float → Created → Sheet
+withCurves h n rays (created.Curves pieces) = record { reply = Accepted pieces (eqb (h .reverse) 1) n; rays = rays }
+withCurves h n rays (created.Refused number) = refusedWith number 0
+
+-- 17 with the first wrong line, then those of create_curve_shape
+unfoldable pub sheetWithin : List ℕ → ℕ → Sheet
+sheetWithin l room =
+    let h = headOf l in
+    let c = h .cursor in
+    cond (isWhole l c) (withCurves h (rayCount l c) (over noRays 0 (raysOf l c)) (createdOf (pointsOf l c) (paramsIn h) room)) (refusedWith 17 (linesRight l c + 1))
+
+-- a refusal leaves the list as it was
+unfoldable pub listWithin : List ℕ → List Float → List Float
+listWithin l list =
+    let h = headOf l in
+    let c = h .cursor in
+    cond (isWhole l c) (listAfter (pointsOf l c) (paramsIn h) list) list
+
+-- the whole answer: first 18, for more than 65,536 bytes
+unfoldable pub sheetOf : List ℕ → ℕ → Sheet
+sheetOf l room = cond (ltb 65536 (length l)) (refusedWith 18 0) (sheetWithin l room)
+
+-- the list afterwards
+unfoldable pub listOf : List ℕ → List Float → List Float
+listOf l list = cond (ltb 65536 (length l)) list (listWithin l list)

@@ -1,0 +1,124 @@
+-- The text of a belt sheet as one who writes it down puts it: its numbers, and the bytes for them. Definitions only.
+use Prim.Native.Nat.{ℕ, _+_, _/_, _%_, _^_, _<_, _≤_}
+use mathlib.Core.Bool.{true, cond}
+use mathlib.Core.List.{List, [], _∷_, _++_, map}
+use mathlib.Core.Path.{_≡_}
+use lib.Dec.{eqb, ltb}
+use lib.Ieee.{Float, binary32, ofBits}
+use lib.ListN.{length}
+use Rattle.sheet.specs.Ascii.{ascii}
+use Rattle.sheet.specs.declared.head.Head.{Head}
+
+-- ---- what is written
+
+-- The numbers of a sheet: basis 0 bezier, 1 bspline; ty 0 flat, 1 ribbon, 2 cylinder; a width, a point's coordinates and a ray's eight
+-- floats by their bits.
+pub record Text : Type 0 where
+  pub degree : ℕ
+  pub basis : ℕ
+  pub ty : ℕ
+  pub width0 : ℕ
+  pub width1 : ℕ
+  pub splitdepth : ℕ
+  pub reverse : ℕ
+  pub points : List (List ℕ)
+  pub rays : List (List ℕ)
+
+abbrev pub AllOf : {A : Type 0} → (A → Type 0) → List A → Type 0
+AllOf P [] = Unit {0}
+AllOf P (x ∷ xs) = P x × AllOf P xs
+
+abbrev pub IsWord : ℕ → Type 0
+IsWord w = w < 2 ^ 32
+
+-- n words
+abbrev pub IsRowOf : ℕ → List ℕ → Type 0
+IsRowOf n ws = (length ws ≡ n) × AllOf IsWord ws
+
+-- each number is one that can be written, there is a point, and there are not too many points and rays
+pub record IsText (t : Text) : Type 0 where
+  pub degree : t .degree < 100
+  pub basis : t .basis ≤ 1
+  pub ty : t .ty ≤ 2
+  pub width0 : IsWord (t .width0)
+  pub width1 : IsWord (t .width1)
+  pub splitdepth : t .splitdepth < 100
+  pub reverse : t .reverse ≤ 1
+  pub some-point : 0 < length (t .points)
+  pub most-points : length (t .points) ≤ 2048
+  pub most-rays : length (t .rays) ≤ 64
+  pub points : AllOf (IsRowOf 3) (t .points)
+  pub rays : AllOf (IsRowOf 8) (t .rays)
+
+-- ---- numbers
+
+-- 0 to 9, a to f
+unfoldable pub digitChar : ℕ → ℕ
+digitChar d = cond (ltb d 10) (48 + d) (87 + d)
+
+-- one digit, and two from 10 on
+unfoldable pub decimalOf : ℕ → List ℕ
+decimalOf n = cond (ltb n 10) (digitChar n ∷ []) (digitChar (n / 10) ∷ digitChar (n % 10) ∷ [])
+
+-- four digits, and the eight of a word
+unfoldable pub fourOf : ℕ → List ℕ
+fourOf h = digitChar (h / 4096 % 16) ∷ digitChar (h / 256 % 16) ∷ digitChar (h / 16 % 16) ∷ digitChar (h % 16) ∷ []
+
+unfoldable pub hexOf : ℕ → List ℕ
+hexOf w = fourOf (w / 65536) ++ fourOf (w % 65536)
+
+-- ---- lines
+
+unfoldable pub basisOf : ℕ → List ℕ
+basisOf b = cond (eqb b 0) (ascii "bezier") (ascii "bspline")
+
+unfoldable pub typeOf : ℕ → List ℕ
+typeOf k = cond (eqb k 0) (ascii "flat") (cond (eqb k 1) (ascii "ribbon") (ascii "cylinder"))
+
+unfoldable pub lineOf : List ℕ → List ℕ → List ℕ
+lineOf key value = key ++ value ++ ascii "\n"
+
+-- the seven lines of the head
+unfoldable pub headText : Text → List ℕ
+headText t =
+    lineOf (ascii "degree=") (decimalOf (t .degree))
+    ++ lineOf (ascii "basis=") (basisOf (t .basis))
+    ++ lineOf (ascii "type=") (typeOf (t .ty))
+    ++ lineOf (ascii "width0=") (hexOf (t .width0))
+    ++ lineOf (ascii "width1=") (hexOf (t .width1))
+    ++ lineOf (ascii "splitdepth=") (decimalOf (t .splitdepth))
+    ++ lineOf (ascii "reverse=") (decimalOf (t .reverse))
+
+-- words with commas between
+unfoldable pub commas : List ℕ → List ℕ
+commas [] = []
+commas (w ∷ []) = hexOf w
+commas (w ∷ v ∷ ws) = hexOf w ++ ascii "," ++ commas (v ∷ ws)
+
+-- a line for each row
+unfoldable pub rowsText : List ℕ → List (List ℕ) → List ℕ
+rowsText key [] = []
+rowsText key (ws ∷ rows) = lineOf key (commas ws) ++ rowsText key rows
+
+unfoldable pub textOf : Text → List ℕ
+textOf t = headText t ++ rowsText (ascii "point=") (t .points) ++ rowsText (ascii "beam=") (t .rays)
+
+-- ---- what it says
+
+-- the floats of all rows, in order
+unfoldable pub floatsOf : List (List ℕ) → List Float
+floatsOf [] = []
+floatsOf (ws ∷ rows) = map (ofBits binary32) ws ++ floatsOf rows
+
+-- its head, and the place behind it
+abbrev pub headWritten : Text → Head
+headWritten t = record {
+  cursor = record { at = length (headText t); lines = 7; ok = true };
+  degree = t .degree;
+  basis = t .basis;
+  ty = t .ty;
+  width0 = t .width0;
+  width1 = t .width1;
+  splitdepth = t .splitdepth;
+  reverse = t .reverse;
+}

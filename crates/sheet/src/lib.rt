@@ -1,0 +1,124 @@
+// The belt sheet (01: Sheet): its reader. A sheet is a head of seven lines, then one or more points, then
+// up to 64 rays; its curves go into a list that is lent.
+ghost use mathlib.Core.Path.{_≡_};
+ghost use Prim.Native.Nat.{_≤_};
+ghost use lib.ListN.{length};
+ghost use Rattle.curve.specs.Create.{createdOf, listAfter};
+ghost use Rattle.curve.specs.List.{over};
+ghost use Rattle.sheet.specs.Sheet.{pointCount, pointsOf, raysFrom, rayFloats, refusedWith, paramsIn, withCurves, sheetWithin, listWithin, sheetOf, listOf};
+
+mod bytes;
+mod head;
+mod line;
+mod reader;
+mod rows;
+
+use curve::Created;
+use head::Cursor;
+use head::Head;
+use head::read_head;
+use rows::read_rows;
+
+// What a sheet answers: the number of curves, the reverse flag and the number of rays; or a refusal's
+// number with the wrong line, which is 0 with every number but 17.
+pub enum Reply {
+    Accepted(u32, bool, usize),
+    Refused(u8, usize),
+}
+
+// The reply, and eight floats for each ray, the rest 0.
+pub struct Sheet {
+    pub reply: Reply,
+    pub rays: [f32; 512],
+}
+
+fn refused(number: u8, line: usize) -> Sheet
+    ensures { λ r. ⌜ r ≡ refusedWith number line ⌝ }
+{
+    Sheet {
+        reply: Reply::Refused(number, line),
+        rays: [0.0f32; 512],
+    }
+}
+
+// The points behind the head, and how many there are.
+fn read_points(s: &[u8], c: Cursor, out: &mut [f32]) -> usize
+    requires { ⌜ (c .at ≤ 1000) × (6144 ≤ length (now out)) ⌝ }
+    ensures { λ r. ⌜ r ≡ pointCount (now (s .entry)) c ⌝ }
+    ensures { λ _. ⌜ now (out .exit) ≡ over (now (out .entry)) 0 (pointsOf (now (s .entry)) c) ⌝ }
+{
+    if c.ok {
+        read_rows(s, c.at, b"point=", 3, 2048, out)
+    } else {
+        0
+    }
+}
+
+// The rays behind so many points, and how many there are.
+fn read_rays(s: &[u8], at: usize, points: usize, out: &mut [f32]) -> usize
+    requires { ⌜ (at ≤ 100000) × (512 ≤ length (now out)) ⌝ }
+    ensures { λ r. ⌜ r ≡ raysFrom (now (s .entry)) at points ⌝ }
+    ensures { λ _. ⌜ now (out .exit) ≡ over (now (out .entry)) 0 (rayFloats (now (s .entry)) at points) ⌝ }
+{
+    if 0 < points {
+        read_rows(s, at, b"beam=", 8, 64, out)
+    } else {
+        0
+    }
+}
+
+// The curves of a whole sheet.
+fn create(h: Head, points: &[f32], list: &mut [f32], n: usize, rays: [f32; 512]) -> Sheet
+    ensures { λ r. ⌜ r ≡ withCurves h n rays (createdOf (now (points .entry)) (paramsIn h) (length (now (list .entry)))) ⌝ }
+    ensures { λ _. ⌜ now (list .exit) ≡ listAfter (now (points .entry)) (paramsIn h) (now (list .entry)) ⌝ }
+{
+    let width0 = float::of_bits(h.width0);
+    let width1 = float::of_bits(h.width1);
+    let created = curve::create_curve_shape(
+        points,
+        h.degree,
+        h.basis,
+        h.ty,
+        width0,
+        width1,
+        h.splitdepth,
+        list,
+    );
+    match created {
+        Created::Curves(pieces) => Sheet {
+            reply: Reply::Accepted(pieces, h.reverse == 1, n),
+            rays,
+        },
+        Created::Refused(number) => refused(number, 0),
+    }
+}
+
+// A sheet that is not too long.
+fn read_within(s: &[u8], list: &mut [f32]) -> Sheet
+    ensures { λ r. ⌜ r ≡ sheetWithin (now (s .entry)) (length (now (list .entry))) ⌝ }
+    ensures { λ _. ⌜ now (list .exit) ≡ listWithin (now (s .entry)) (now (list .entry)) ⌝ }
+{
+    let head = read_head(s);
+    let mut points = [0.0f32; 6144];
+    let mut rays = [0.0f32; 512];
+    let p = read_points(s, head.cursor, &mut points);
+    let at = head.cursor.at + p * 33;
+    let n = read_rays(s, at, p, &mut rays);
+    if (0 < p) & (at + n * 77 == s.len()) {
+        create(head, &points[..p * 3], list, n, rays)
+    } else {
+        refused(17, head.cursor.lines + p + n + 1)
+    }
+}
+
+// Reads a sheet and puts its curves into the list.
+pub fn read_sheet(bytes: &[u8], list: &mut [f32]) -> Sheet
+    ensures { λ r. ⌜ r ≡ sheetOf (now (bytes .entry)) (length (now (list .entry))) ⌝ }
+    ensures { λ _. ⌜ now (list .exit) ≡ listOf (now (bytes .entry)) (now (list .entry)) ⌝ }
+{
+    if 65536 < bytes.len() {
+        refused(18, 0)
+    } else {
+        read_within(bytes, list)
+    }
+}
