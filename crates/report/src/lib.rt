@@ -1,0 +1,8 @@
+// What the program `beltbeam` prints of a sheet: where each ray meets each curve, or why the sheet is
+// refused.
+mod explain;
+mod line;
+mod print;
+mod text;
+
+pub use print::print_sheet;
