@@ -37,6 +37,25 @@ pub fn intersect(rng: &mut Rng, words: &mut Words) {
     beam.put(words);
 }
 
+/// One for a branch or a refusal that needs no matrix but the identity.
+pub fn without_matrices(rng: &mut Rng) -> Beam {
+    let make = rng.pick(&[
+        at_origin,
+        at_origin,
+        at_turning_point,
+        along_tangent,
+        tiny_belt,
+        tiny_direction,
+        no_direction,
+    ]);
+
+    Beam {
+        object_to_world: identity(),
+        world_to_object: identity(),
+        ..make(rng)
+    }
+}
+
 // The belt.
 
 fn belt(rng: &mut Rng) -> Piece {
@@ -77,7 +96,7 @@ fn belt_of(rng: &mut Rng, points: [Triple; 4]) -> Piece {
 }
 
 /// Four points about zero, of size about one.
-fn shape(rng: &mut Rng) -> [Triple; 4] {
+pub fn shape(rng: &mut Rng) -> [Triple; 4] {
     let along: Triple = unit(rng);
     let across: Triple = unit(rng);
     let drift: Triple = unit(rng).map(|x| x * rng.pick(&[0.0, 0.01, 0.2, 2.0]));
@@ -217,8 +236,35 @@ fn beside(rng: &mut Rng) -> f64 {
 
 fn aimed(rng: &mut Rng) -> Beam {
     let piece = belt(rng);
-    let place = place(rng, &piece);
-    let direction = direction(rng, &piece, &place);
+    let aim = aim(rng, &piece);
+    let mut beam = placed(rng, piece, aim.origin, aim.direction);
+    beam.ray[6] = t_max(rng, &aim);
+
+    beam
+}
+
+/// A ray at a piece, where both matrices are the identity.
+pub fn ray_at(rng: &mut Rng, piece: &Piece) -> [f32; 8] {
+    let aim = aim(rng, piece);
+    let [ox, oy, oz] = aim.origin.map(|x| x as f32);
+    let [dx, dy, dz] = aim.direction.map(|x| x as f32);
+
+    [ox, oy, oz, dx, dy, dz, t_max(rng, &aim), rng.moderate()]
+}
+
+/// A ray at a point of the belt, in the belt's frame.
+struct Aim {
+    origin: Triple64,
+    direction: Triple64,
+    /// Of the direction.
+    length: f64,
+    distance: f64,
+    half_width: f64,
+}
+
+fn aim(rng: &mut Rng, piece: &Piece) -> Aim {
+    let place = place(rng, piece);
+    let direction = direction(rng, piece, &place);
     let aside = scaled(
         normal(cross(direction, place.tangent)),
         place.half * beside(rng),
@@ -234,23 +280,29 @@ fn aimed(rng: &mut Rng) -> Beam {
         1 => rng.moderate().abs() as f64 + 0.01,
         _ => 1.0,
     };
-    let origin = std::array::from_fn(|k| place.point[k] + aside[k] - direction[k] * distance);
-    let mut beam = placed(rng, piece, origin, scaled(direction, speed));
-    beam.ray[6] = match rng.below(48) {
+
+    Aim {
+        origin: std::array::from_fn(|k| place.point[k] + aside[k] - direction[k] * distance),
+        direction: scaled(direction, speed),
+        length: speed,
+        distance,
+        half_width: place.half,
+    }
+}
+
+fn t_max(rng: &mut Rng, aim: &Aim) -> f32 {
+    let reaching = |distance: f64| distance.max(0.0) as f32 / aim.length as f32;
+    match rng.below(48) {
         0 if rng.one_in(2) => rng.zero(),
         0 => rng.subnormal().abs(),
         1 => rng.moderate().abs(),
         2 => rng.any().abs().max(0.0),
         // About where the width decides: the whole is tested other than the halves.
-        3 | 4 | 5 => {
-            (distance + place.half * 1.5 * rng.unit() as f64).max(0.0) as f32 / speed as f32
-        }
-        6 => (distance * 0.5).max(0.0) as f32 / speed as f32,
-        7 | 8 => (distance * 2.0).max(0.0) as f32 / speed as f32,
+        3 | 4 | 5 => reaching(aim.distance + aim.half_width * 1.5 * rng.unit() as f64),
+        6 => reaching(aim.distance * 0.5),
+        7 | 8 => reaching(aim.distance * 2.0),
         _ => f32::INFINITY,
-    };
-
-    beam
+    }
 }
 
 fn direction(rng: &mut Rng, piece: &Piece, place: &Place) -> Triple64 {
@@ -725,7 +777,7 @@ fn any(rng: &mut Rng) -> Beam {
 }
 
 /// t_max where the hit is, or next to it.
-fn end_at_hit(rng: &mut Rng, beam: &mut Beam) {
+pub fn end_at_hit(rng: &mut Rng, beam: &mut Beam) {
     if let Reply::Hit(_, record) = flat::read(beam).reply {
         let t = record[0];
         if t > 0.0 && t.is_finite() {

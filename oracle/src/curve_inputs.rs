@@ -21,7 +21,7 @@ pub const PIECE: Reach = Reach {
     width: 2048.0,
 };
 
-const LAID: Reach = Reach {
+pub const LAID: Reach = Reach {
     coordinate: 1_048_576.0,
     width: 1024.0,
 };
@@ -105,7 +105,7 @@ pub fn spoil_piece(rng: &mut Rng, piece: &mut Piece) {
 }
 
 /// The coordinates of n points, of one sort and within reach; now and then degenerate.
-fn points(rng: &mut Rng, n: u32, reach: &Reach) -> Vec<f32> {
+pub fn points(rng: &mut Rng, n: u32, reach: &Reach) -> Vec<f32> {
     let n = n as usize;
     let most = reach.coordinate;
     let sort = rng.below(16);
@@ -157,7 +157,7 @@ fn points(rng: &mut Rng, n: u32, reach: &Reach) -> Vec<f32> {
     floats
 }
 
-fn widths(rng: &mut Rng, reach: &Reach) -> [f32; 2] {
+pub fn widths(rng: &mut Rng, reach: &Reach) -> [f32; 2] {
     let (least, most) = (1.0 / reach.width, reach.width);
     let both = std::array::from_fn(|_| match rng.below(8) {
         0 => rng.pick(&[least, most]),
@@ -318,7 +318,7 @@ fn size(rng: &mut Rng, degree: u32, basis: u32) -> (u32, u32) {
     (points_of(degree, basis, segments), split)
 }
 
-fn points_of(degree: u32, basis: u32, segments: u32) -> u32 {
+pub fn points_of(degree: u32, basis: u32, segments: u32) -> u32 {
     if basis == 0 {
         segments * degree + 1
     } else {
@@ -359,7 +359,7 @@ fn miscount(rng: &mut Rng, floats: &mut Vec<f32>) {
 }
 
 /// A width, or a coordinate, often the first or the last, at 01's limit, beyond it, or anything.
-fn spoil(rng: &mut Rng, params: &mut ShapeParams) {
+pub fn spoil(rng: &mut Rng, params: &mut ShapeParams) {
     let len = params.floats.len();
     if len == 0 || rng.one_in(2) {
         params.widths[rng.below(2) as usize] = edge_width(rng, &LAID);

@@ -228,23 +228,14 @@ fn create_curve_shape(line: &mut Reader, answer: &mut Words) {
         list_len: line.word(),
         floats: line.counted_floats(),
     };
-    let curves = limits::create_curve_shape(&params).map(|pieces| {
-        let curves = curves_of(&params);
-        assert_eq!(pieces, curves.len() as i64);
-
-        curves
-    });
-    put_reply(answer, curves, |words, curves| {
+    put_reply(answer, laid(&params), |words, pieces| {
         let mut list = Words::new();
-        for shape in &curves {
-            let Shapes::Curve(curve) = shape.as_ref();
-            put(&mut list, &curve::record(curve));
-        }
+        put(&mut list, pieces.as_flattened());
         for i in list.len() as u32..params.list_len {
             put(&mut list, &[list_before(i)]);
         }
         let hash = hash(&list);
-        words.extend([curves.len() as u32, (hash >> 32) as u32, hash as u32]);
+        words.extend([pieces.len() as u32, (hash >> 32) as u32, hash as u32]);
     });
 }
 
@@ -279,6 +270,19 @@ pub fn curve_of(piece: &[f32; 16], object_to_world: Transform) -> Curve {
         piece[14],
         piece[15],
     )
+}
+
+/// The pieces that the Rust lays, where 01's limits let it.
+pub fn laid(params: &ShapeParams) -> Result<Vec<[f32; 16]>, u32> {
+    let pieces = limits::create_curve_shape(params)?;
+    let curves = curves_of(params);
+    assert_eq!(pieces, curves.len() as i64);
+    let record = |shape: &Arc<Shapes>| {
+        let Shapes::Curve(curve) = shape.as_ref();
+        curve::record(curve)
+    };
+
+    Ok(curves.iter().map(record).collect())
 }
 
 /// The Rust's call, given each parameter that it looks up for flat curves.

@@ -10,12 +10,15 @@ mod limits;
 mod panics;
 mod rng;
 mod shares;
+mod sheet;
+mod sheet_inputs;
 mod words;
 
 use kinds::{Kind, KINDS};
 use rng::Rng;
-use std::io::Write;
+use std::io::{Read, Write};
 use std::panic::{catch_unwind, set_hook};
+use std::path::Path;
 use std::process::exit;
 use words::{append, Reader, Words};
 
@@ -25,26 +28,30 @@ fn main() {
     match arguments.iter().map(String::as_str).collect::<Vec<_>>()[..] {
         ["--help"] => print!("{}", usage()),
         ["kinds"] => KINDS.iter().for_each(|kind| println!("{}", kind.name)),
-        ["shares", seed, n] => match (seed.parse(), n.parse()) {
-            (Ok(seed), Ok(n)) => shares::print(seed, n),
-            _ => wrong_usage(),
+        ["shares", seed, n] => shares::print(number(seed), number(n)),
+        ["sheets", seed, n, dir] => sheets(number(seed), number(n), Path::new(dir)),
+        ["sheet"] => answer_sheet(),
+        ["sheet_shares", seed, n] => shares::print_sheets(number(seed), number(n)),
+        [name, seed, n] => match KINDS.iter().find(|kind| kind.name == name) {
+            Some(kind) => lines(kind, number(seed), number(n)),
+            None => wrong_usage(),
         },
-        [name, seed, n] => {
-            let kind = KINDS.iter().find(|kind| kind.name == name);
-            match (kind, seed.parse(), n.parse()) {
-                (Some(kind), Ok(seed), Ok(n)) => lines(kind, seed, n),
-                _ => wrong_usage(),
-            }
-        }
         _ => wrong_usage(),
     }
 }
 
+fn number(text: &str) -> u64 {
+    text.parse().unwrap_or_else(|_| wrong_usage())
+}
+
 fn usage() -> String {
     let mut text = String::from(
-        "oracle KIND SEED N     N lines of that kind: the inputs, then the answer of the Rust\n\
-         oracle kinds           the names of the kinds\n\
-         oracle shares SEED N   what the inputs of `intersect` reach, as shares of N lines\n\
+        "oracle KIND SEED N          N lines of that kind: the inputs, then the answer of the Rust\n\
+         oracle kinds                the names of the kinds\n\
+         oracle shares SEED N        what the inputs of `intersect` reach, as shares of N lines\n\
+         oracle sheets SEED N DIR    N belt sheets DIR/0.sheet, .. and what `beltbeam` prints for each, DIR/0.out, ..\n\
+         oracle sheet                what `beltbeam` prints for the belt sheet on standard input\n\
+         oracle sheet_shares SEED N  what the belt sheets reach, as shares of N sheets\n\
          \n\
          Words of eight hexadecimal digits; a NaN is 7fc00000. A line without an answer is one on which\n\
          the Rust panics because a length or a weight is zero. A status is 0, or 1 for a miss, or the\n\
@@ -83,6 +90,34 @@ fn lines(kind: &Kind, seed: u64, n: u64) {
         }
     }
     flush(&mut text);
+}
+
+fn sheets(seed: u64, n: u64, dir: &Path) {
+    let mut rng = Rng::new(seed, "sheets");
+    for i in 0..n {
+        let bytes = sheet_inputs::sheet(&mut rng).bytes;
+        write(&dir.join(format!("{i}.sheet")), &bytes);
+        write(
+            &dir.join(format!("{i}.out")),
+            sheet::output(&bytes).as_bytes(),
+        );
+    }
+}
+
+fn write(path: &Path, bytes: &[u8]) {
+    if let Err(error) = std::fs::write(path, bytes) {
+        eprintln!("{}: {error}", path.display());
+        exit(1);
+    }
+}
+
+fn answer_sheet() {
+    let mut bytes = Vec::new();
+    if let Err(error) = std::io::stdin().read_to_end(&mut bytes) {
+        eprintln!("standard input: {error}");
+        exit(1);
+    }
+    flush(&mut sheet::output(&bytes));
 }
 
 /// A reader that stops reading ends the program.
