@@ -4,7 +4,8 @@ ghost use mathlib.Core.List.{[], _∷_};
 ghost use Prim.Native.Nat.{_+_, _≤_, _<_};
 ghost use lib.ListN.{length};
 ghost use Rattle.curve.specs.List.{over};
-ghost use Rattle.report.specs.Text.{onlyIf, decimalText, hexDigit, hexText, floatText};
+ghost use Rattle.report.specs.Text.{onlyIf, decimalText, hexText, floatText};
+ghost use Rattle.sheet.specs.Written.{digitChar};
 
 pub fn put_word(out: &mut [u8], at: usize, word: &[u8]) -> usize
     requires { ⌜ at + length (now word) ≤ length (now out) ⌝ }
@@ -47,7 +48,7 @@ pub fn put_decimal(out: &mut [u8], at: usize, n: u32) -> usize
 
 fn hex_digit(d: u8) -> u8
     requires { ⌜ d < 16 ⌝ }
-    ensures { λ r. ⌜ r ≡ hexDigit d ⌝ }
+    ensures { λ r. ⌜ r ≡ digitChar d ⌝ }
 {
     if d < 10 { 48 + d } else { 87 + d }
 }

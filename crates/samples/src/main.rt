@@ -16,7 +16,7 @@ fn run(path: &[u8]) {
 }
 
 // Belts and their beams.
-fn run_belts() {
+fn run_curves() {
     run(b"straight.sheet");
     run(b"three-crossings.sheet");
     run(b"spiral.sheet");
@@ -26,7 +26,7 @@ fn run_belts() {
 }
 
 // Each refusal of a beam that a sheet can reach.
-fn run_refused_beams() {
+fn run_refused_rays() {
     run(b"refused_11.sheet");
     run(b"refused_13.sheet");
     run(b"refused_14.sheet");
@@ -36,7 +36,7 @@ fn run_refused_beams() {
 }
 
 // Each refusal of laying that a sheet can reach.
-fn run_refused_belts() {
+fn run_refused_curves() {
     run(b"refused_1.sheet");
     run(b"refused_3.sheet");
     run(b"refused_4.sheet");
@@ -69,9 +69,9 @@ fn run_wrong_ends() {
 }
 
 fn main() {
-    run_belts();
-    run_refused_beams();
-    run_refused_belts();
+    run_curves();
+    run_refused_rays();
+    run_refused_curves();
     run_wrong_lines();
     run_wrong_ends();
 }

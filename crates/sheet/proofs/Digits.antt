@@ -1,15 +1,14 @@
 -- How large digits are. Assumes nothing.
-use mathlib.Core.Bool.{Bool, true, false, cond, _&&_}
+use mathlib.Core.Bool.{Bool, true, false, cond}
 use mathlib.Core.Path.{_≡_, refl}
 use mathlib.Core.List.{List}
-use Prim.Native.Nat.{ℕ, _+_, _-_, _*_, _≤_}
+use Prim.Native.Nat.{ℕ, _-_, _≤_}
 use native.Mathlib.Nat.{le-refl}
 use native.Mathlib.Omega.{arith}
-use borrow.Author.Tests.{leb-true, ltb-true}
+use borrow.Author.Tests.{leb-true}
 use lib.Dec.{ltb, leb}
 use lib.ListN.{length, getD}
-use Rattle.sheet.specs.Bytes.{digitOf, digitAt, fourAt}
-use Rattle.sheet.proofs.Below.{both}
+use Rattle.sheet.specs.Bytes.{digitOf, digitAt}
 
 digit-le : (b : ℕ) → digitOf b ≤ 16
 unfolding digitOf
@@ -29,18 +28,3 @@ digit-at-le l i = go (ltb i (length l))
     go : (b : Bool) → cond b (digitOf (getD l i 0)) 16 ≤ 16
     go true = digit-le (getD l i 0)
     go false = le-refl 16
-
-pub four-le : (l : List ℕ) (at : ℕ) → fourAt l at ≤ 65536
-unfolding fourAt
-four-le l at = go (digitAt l at) (digitAt l (at + 1)) (digitAt l (at + 2)) (digitAt l (at + 3))
-  where
-    go : (a b c d : ℕ) → cond (ltb a 16 && ltb b 16 && ltb c 16 && ltb d 16) (((a * 16 + b) * 16 + c) * 16 + d) 65536 ≤ 65536
-    go a b c d = at-test (ltb a 16 && ltb b 16 && ltb c 16 && ltb d 16) refl
-      where
-        at-test : (t : Bool) → (ltb a 16 && ltb b 16 && ltb c 16 && ltb d 16) ≡ t → cond t (((a * 16 + b) * 16 + c) * 16 + d) 65536 ≤ 65536
-        at-test false e = le-refl 65536
-        at-test true e =
-            let h = both (ltb a 16 && ltb b 16 && ltb c 16) (ltb d 16) e in
-            let i = both (ltb a 16 && ltb b 16) (ltb c 16) (h .0) in
-            let j = both (ltb a 16) (ltb b 16) (i .0) in
-            omega (arith, ltb-true a 16 (j .0), ltb-true b 16 (j .1), ltb-true c 16 (i .1), ltb-true d 16 (h .1))

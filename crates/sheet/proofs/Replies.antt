@@ -13,9 +13,8 @@ use Rattle.curve.specs.Create.{paramsOf, createdOf, listAfter}
 use Rattle.curve.specs.List.{over, upTo}
 use Rattle.curve.specs.declared.create.Created.{Created}
 use Rattle.curve.proofs.Lists.{over-nil, over-length, length-upTo}
-use Rattle.sheet.specs.Ascii.{ascii}
 use Rattle.sheet.specs.Bytes.{runBelow}
-use Rattle.sheet.specs.Sheet.{rowsFrom, floatsFrom, mostPoints, mostRays, raysFrom, rayFloats, pointCount, pointsOf, raysAt, rayCount, raysOf, linesRight, isWhole, noRays, refusedWith, paramsIn, withCurves, headOf, sheetWithin, listWithin, sheetOf, listOf}
+use Rattle.sheet.specs.Sheet.{rowsFrom, floatsFrom, raysFrom, rayFloats, pointCount, pointsOf, raysAt, rayCount, raysOf, linesRight, isWhole, noRays, refusedWith, paramsIn, withCurves, headOf, sheetWithin, listWithin, sheetOf, listOf}
 use Rattle.sheet.specs.declared.head.Cursor.{Cursor}
 use Rattle.sheet.specs.declared.head.Head.{Head}
 use Rattle.sheet.specs.declared.Sheet.{Sheet}
@@ -28,33 +27,20 @@ no-floats : (l : List ℕ) (at : ℕ) (key : List ℕ) (n : ℕ) (out : List Flo
 unfolding floatsFrom upTo
 no-floats l at key n out = sym (over-nil out 0)
 
-pub points-read : (l : List ℕ) (c : Cursor) (out out′ : List Float) (r : ℕ) → c .ok ≡ true
-    → (r ≡ rowsFrom l (c .at) (ascii "point=") 3 mostPoints) × (out′ ≡ over out 0 (floatsFrom l (c .at) (ascii "point=") 3 r))
-    → (r ≡ pointCount l c) × (out′ ≡ over out 0 (pointsOf l c))
-unfolding pointCount pointsOf
-points-read l c out out′ r e h =
-    let p : r ≡ cond (c .ok) (rowsFrom l (c .at) (ascii "point=") 3 mostPoints) 0 = h .0 ∙ ap (λ b. cond b (rowsFrom l (c .at) (ascii "point=") 3 mostPoints) 0) (sym e) in
-    (p, h .1 ∙ ap (λ k. over out 0 (floatsFrom l (c .at) (ascii "point=") 3 k)) p)
+-- the rows of a key where a test passes, and none where it fails
+module _ (l : List ℕ) (at : ℕ) (key : List ℕ) (n most : ℕ) (out : List Float) (b : Bool) where
+  abbrev rows : ℕ
+  rows = cond b (rowsFrom l at key n most) 0
 
-pub points-none : (l : List ℕ) (c : Cursor) (out : List Float) → c .ok ≡ false → (0 ≡ pointCount l c) × (out ≡ over out 0 (pointsOf l c))
-unfolding pointCount pointsOf
-points-none l c out e =
-    let p : 0 ≡ cond (c .ok) (rowsFrom l (c .at) (ascii "point=") 3 mostPoints) 0 = ap (λ b. cond b (rowsFrom l (c .at) (ascii "point=") 3 mostPoints) 0) (sym e) in
-    (p, no-floats l (c .at) (ascii "point=") 3 out ∙ ap (λ k. over out 0 (floatsFrom l (c .at) (ascii "point=") 3 k)) p)
+  pub rows-read : (out′ : List Float) (r : ℕ) → b ≡ true → (r ≡ rowsFrom l at key n most) × (out′ ≡ over out 0 (floatsFrom l at key n r)) → (r ≡ rows) × (out′ ≡ over out 0 (floatsFrom l at key n rows))
+  rows-read out′ r e h =
+      let p : r ≡ rows = h .0 ∙ ap (λ t. cond t (rowsFrom l at key n most) 0) (sym e) in
+      (p, h .1 ∙ ap (λ k. over out 0 (floatsFrom l at key n k)) p)
 
-pub rays-read : (l : List ℕ) (at points : ℕ) (out out′ : List Float) (r : ℕ) → ltb 0 points ≡ true
-    → (r ≡ rowsFrom l at (ascii "beam=") 8 mostRays) × (out′ ≡ over out 0 (floatsFrom l at (ascii "beam=") 8 r))
-    → (r ≡ raysFrom l at points) × (out′ ≡ over out 0 (rayFloats l at points))
-unfolding raysFrom rayFloats
-rays-read l at points out out′ r e h =
-    let p : r ≡ cond (ltb 0 points) (rowsFrom l at (ascii "beam=") 8 mostRays) 0 = h .0 ∙ ap (λ b. cond b (rowsFrom l at (ascii "beam=") 8 mostRays) 0) (sym e) in
-    (p, h .1 ∙ ap (λ k. over out 0 (floatsFrom l at (ascii "beam=") 8 k)) p)
-
-pub rays-none : (l : List ℕ) (at points : ℕ) (out : List Float) → ltb 0 points ≡ false → (0 ≡ raysFrom l at points) × (out ≡ over out 0 (rayFloats l at points))
-unfolding raysFrom rayFloats
-rays-none l at points out e =
-    let p : 0 ≡ cond (ltb 0 points) (rowsFrom l at (ascii "beam=") 8 mostRays) 0 = ap (λ b. cond b (rowsFrom l at (ascii "beam=") 8 mostRays) 0) (sym e) in
-    (p, no-floats l at (ascii "beam=") 8 out ∙ ap (λ k. over out 0 (floatsFrom l at (ascii "beam=") 8 k)) p)
+  pub rows-none : b ≡ false → (0 ≡ rows) × (out ≡ over out 0 (floatsFrom l at key n rows))
+  rows-none e =
+      let p : 0 ≡ rows = ap (λ t. cond t (rowsFrom l at key n most) 0) (sym e) in
+      (p, no-floats l at key n out ∙ ap (λ k. over out 0 (floatsFrom l at key n k)) p)
 
 -- ---- the curves
 

@@ -1,16 +1,18 @@
 -- `sheet::read_points` meets its contract. Assumes nothing.
 use borrow.Author.Needs.{needs}
 use Rattle.sheet.specs.Ascii.{ascii}
-use Rattle.sheet.proofs.Replies.{points-read, points-none}
+use Rattle.sheet.specs.Sheet.{pointCount, pointsOf}
+use Rattle.sheet.proofs.Replies.{rows-read, rows-none}
 use Rattle.sheet.proofs.read_points.Statement.{statement}
 use Rattle.sheet.proofs.read_points.Tie as tie
 
 returns : tie.Need-returns
-unfolding ascii
-returns c = points-read _ _ _ _ _ (c .before .before .before .before .before .if1 .taken) (c .before .before .read-rows .ensures)
+unfolding ascii pointCount pointsOf
+returns c = rows-read _ _ _ _ _ _ _ _ _ (c .before .before .before .before .before .if1 .taken) (c .before .before .read-rows .ensures)
 
 returns-2 : tie.Need-returns-2
-returns-2 c = points-none _ _ _ (c .if1 .left)
+unfolding ascii pointCount pointsOf
+returns-2 c = rows-none _ _ _ _ _ _ _ (c .if1 .left)
 
 pub read-points-spec : {M : Type 1} → statement M
 read-points-spec = tie.close (tie.spec (λ c. search needs) (λ c κs. search needs) (λ c. search needs) returns returns-2)

@@ -2,16 +2,18 @@
 use borrow.Author.Needs.{needs}
 use borrow.Author.Tests.{lt-ltb, le-ltb}
 use Rattle.sheet.specs.Ascii.{ascii}
-use Rattle.sheet.proofs.Replies.{rays-read, rays-none}
+use Rattle.sheet.specs.Sheet.{raysFrom, rayFloats}
+use Rattle.sheet.proofs.Replies.{rows-read, rows-none}
 use Rattle.sheet.proofs.read_rays.Statement.{statement}
 use Rattle.sheet.proofs.read_rays.Tie as tie
 
 returns : tie.Need-returns
-unfolding ascii
-returns c = rays-read _ _ _ _ _ _ (lt-ltb _ _ (c .before .before .before .before .before .if1 .taken)) (c .before .before .read-rows .ensures)
+unfolding ascii raysFrom rayFloats
+returns c = rows-read _ _ _ _ _ _ _ _ _ (lt-ltb _ _ (c .before .before .before .before .before .if1 .taken)) (c .before .before .read-rows .ensures)
 
 returns-2 : tie.Need-returns-2
-returns-2 c = rays-none _ _ _ _ (le-ltb _ _ (c .if1 .left))
+unfolding ascii raysFrom rayFloats
+returns-2 c = rows-none _ _ _ _ _ _ _ (le-ltb _ _ (c .if1 .left))
 
 pub read-rays-spec : {M : Type 1} → statement M
 read-rays-spec = tie.close (tie.spec (λ c. search needs) (λ c κs. search needs) (λ c. search needs) returns returns-2)
