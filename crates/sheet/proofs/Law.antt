@@ -13,16 +13,21 @@ use lib.Seq.{getD-drop, drop-drop, drop-append-seam}
 use Rattle.curve.specs.Create.{paramsOf, createdOf, listAfter}
 use Rattle.curve.specs.List.{over, upTo}
 use Rattle.curve.specs.declared.create.Params.{Params}
+use Rattle.curve.specs.declared.create.Created.{Created}
+use Rattle.curve.specs.declared.create.Created.the-variants as created
 use Rattle.sheet.specs.Ascii.{ascii}
 use Rattle.sheet.specs.Bytes.{allBelow, byteIs, standsAt, digitOf, digitAt, fourAt, isWord, wordAt}
 use Rattle.sheet.specs.Grammar.{decimalAt, decimalLine, wordLineAt, wordLine, eitherLine, typeLine, headLine, separator, isFloats, isRow, rowSize, floatAt, floatsAt}
-use Rattle.sheet.specs.Sheet.{fieldOf, startOf, headOf, rowsFrom, floatsFrom, mostPoints, mostRays, raysFrom, rayFloats, pointCount, raysAt, rayCount, isWhole, pointsOf, raysOf, noRays, paramsIn, withCurves, sheetWithin, sheetOf, listWithin, listOf}
+use Rattle.sheet.specs.Sheet.{fieldOf, startOf, headOf, rowsFrom, floatsFrom, mostPoints, mostRays, raysFrom, rayFloats, pointCount, raysAt, rayCount, isWhole, pointsOf, raysOf, noRays, refusedWith, linesRight, replyWithin, paramsIn, withCurves, sheetWithin, sheetOf, listWithin, listOf}
 use Rattle.sheet.specs.Written.{Text, IsText, AllOf, IsWord, IsRowOf, digitChar, decimalOf, fourOf, hexOf, basisOf, typeOf, lineOf, headText, commas, rowsText, textOf, floatsOf, headWritten}
 use Rattle.sheet.specs.declared.line.Line.{Line}
 use Rattle.sheet.specs.declared.line.Line.the-variants.{Value}
 use Rattle.sheet.specs.declared.head.Cursor.{Cursor}
 use Rattle.sheet.specs.declared.head.Head.{Head}
+use Rattle.sheet.specs.declared.Sheet.{Sheet}
 use Rattle.sheet.proofs.Below.{all-fails, run-is}
+use Rattle.sheet.proofs.Fields.{head-short}
+use Rattle.sheet.proofs.Replies.{points-most, rays-most}
 
 -- ---- tests below n, from the front
 
@@ -483,3 +488,23 @@ example-text :
     "degree=3\nbasis=bezier\ntype=flat\nwidth0=3f800000\nwidth1=3f800000\nsplitdepth=0\nreverse=0\npoint=c0400000,00000000,40800000\npoint=bf800000,00000000,40800000\npoint=3f800000,00000000,40800000\npoint=40400000,00000000,40800000\nbeam=00000000,00000000,00000000,00000000,00000000,3f800000,7f800000,00000000\n"
 unfolding textOf headText rowsText commas lineOf basisOf typeOf decimalOf hexOf fourOf digitChar ascii
 example-text = refl
+
+-- ---- the numbers of a reply are small
+
+within-either : (b : Bool) (x y : Sheet) → replyWithin (x .reply) → replyWithin (y .reply) → replyWithin (cond b x y .reply)
+within-either true x y p q = p
+within-either false x y p q = q
+
+within-made : (h : Head) (n : ℕ) (rays : List Float) (made : Created) → n ≤ 64 → replyWithin (withCurves h n rays made .reply)
+unfolding refusedWith
+within-made h n rays (created.Curves pieces) few = few
+within-made h n rays (created.Refused number) few = lit≤ tt
+
+pub reply-within : (l : List ℕ) (room : ℕ) → replyWithin (sheetOf l room .reply)
+unfolding sheetOf sheetWithin refusedWith linesRight rayCount
+reply-within l room =
+    let h = headOf l in
+    let c = h .cursor in
+    let rays = rays-most l (raysAt l c) (pointCount l c) _ refl in
+    let wrong : linesRight l c + 1 ≤ 2120 = omega (arith, head-short l h refl .1, points-most l c _ refl, rays) in
+    within-either (ltb 65536 (length l)) _ _ (lit≤ tt) (within-either (isWhole l c) _ _ (within-made h _ (over noRays 0 (raysOf l c)) (createdOf (pointsOf l c) (paramsIn h) room) rays) wrong)

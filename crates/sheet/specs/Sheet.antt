@@ -1,5 +1,5 @@
 -- The belt sheet: its head, then one or more points, then up to 64 rays, and its reply. Definitions only.
-use Prim.Native.Nat.{ℕ, _+_, _*_}
+use Prim.Native.Nat.{ℕ, _+_, _*_, _≤_}
 use mathlib.Core.Bool.{Bool, true, false, cond, _&&_}
 use mathlib.Core.List.{List}
 use lib.Dec.{eqb, ltb}
@@ -19,6 +19,7 @@ use Rattle.sheet.specs.declared.line.Line.the-variants.{Value, Wrong}
 use Rattle.sheet.specs.declared.head.Cursor.{Cursor}
 use Rattle.sheet.specs.declared.head.Field.{Field}
 use Rattle.sheet.specs.declared.head.Head.{Head}
+use Rattle.sheet.specs.declared.Reply.{Reply}
 use Rattle.sheet.specs.declared.Reply.the-variants.{Accepted, Refused}
 use Rattle.sheet.specs.declared.Sheet.{Sheet}
 
@@ -145,3 +146,10 @@ sheetOf l room = cond (ltb 65536 (length l)) (refusedWith 18 0) (sheetWithin l r
 -- the list afterwards
 unfoldable pub listOf : List ℕ → List Float → List Float
 listOf l list = cond (ltb 65536 (length l)) list (listWithin l list)
+
+-- ---- for callers
+
+-- how large the numbers of a reply are: at most 64 rays, and at most 7 lines of the head, 2,048 points and 64 rays before a wrong line
+abbrev pub replyWithin : Reply → Type 0
+replyWithin (Accepted pieces reverse n) = n ≤ mostRays
+replyWithin (Refused number line) = line ≤ 2120

@@ -1,0 +1,21 @@
+-- `curve_c::rays::curve_intersect` meets its contract. Assumes nothing.
+use mathlib.Core.Path.{_≡_, ap, _∙_}
+use borrow.Author.Needs.{needs}
+use denote.Ref.{now}
+use Rattle.intersect.specs.declared.Intersection.{Intersection}
+use Rattle.curve_c.specs.Calls.{metBy, metStatus, recordAfter, lookedAfter}
+use Rattle.curve_c.proofs.rays.curve_intersect.Statement.{statement}
+use Rattle.curve_c.proofs.rays.curve_intersect.Tie as tie
+
+returns : tie.Need-returns
+unfolding metBy
+returns c =
+    let s = c .before .before .before .before .before .before .before .before in
+    let put = c .put-met .ensures in
+    let met = c .before .before .before in
+    let e : met .intersect .result ≡ metBy (now (s .args .piece)) (now (s .args .object-to-world)) (now (s .args .world-to-object)) (s .args .reverse) (now (s .args .ray)) =
+    rw (met .intersect .ensures, met .before .ray-from .ensures, met .before .before .matrix-from2 .ensures, met .before .before .before .matrix-from .ensures) in
+    (put .0 ∙ ap metStatus e, (put .1 .0 ∙ ap (λ (x : Intersection). recordAfter x (now (s .args .«record»))) e, put .1 .1 ∙ ap (λ (x : Intersection). lookedAfter x (now (s .args .looked))) e))
+
+pub curve-intersect-spec : {M : Type 1} → statement M
+curve-intersect-spec = tie.close (tie.spec (λ c κs. tt) (λ c κs. tt) (λ c κs. tt) (λ c κs. search needs) (λ c κs. tt) returns)

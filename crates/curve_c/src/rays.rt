@@ -1,0 +1,51 @@
+// Where a ray meets a curve.
+ghost use mathlib.Core.Path.{_≡_};
+ghost use Rattle.curve_c.specs.Calls.{metBy, metStatus, recordAfter, lookedAfter};
+use crate::floats::matrix_from;
+use crate::floats::ray_from;
+use crate::floats::record_floats;
+use intersect::Intersection;
+
+// Answers 0 with a hit and 1 with a miss, or its refusal.
+fn put_met(met: Intersection, record: &mut [f32; 22], looked: &mut u32) -> u32
+    ensures { λ r. ⌜ r ≡ metStatus met ⌝ }
+    ensures { λ _. ⌜ now («record» .exit) ≡ recordAfter met (now («record» .entry)) ⌝ }
+    ensures { λ _. ⌜ now (looked .exit) ≡ lookedAfter met (now (looked .entry)) ⌝ }
+{
+    match met {
+        Intersection::Hit(h, n) => {
+            *record = record_floats(h);
+            *looked = n;
+            0
+        }
+        Intersection::Miss(n) => {
+            *looked = n;
+            1
+        }
+        Intersection::Refused(number) => number as u32,
+    }
+}
+
+#[no_mangle]
+pub extern "C" fn curve_intersect(
+    piece: &[f32],
+    object_to_world: &[f32; 16],
+    world_to_object: &[f32; 16],
+    reverse: u32,
+    ray: &[f32; 8],
+    record: &mut [f32; 22],
+    looked: &mut u32,
+) -> u32
+    ensures { λ r. ⌜ r ≡ metStatus (metBy (now (piece .entry)) (now («object_to_world» .entry)) (now («world_to_object» .entry)) reverse (now (ray .entry))) ⌝ }
+    ensures { λ _. ⌜ now («record» .exit) ≡ recordAfter (metBy (now (piece .entry)) (now («object_to_world» .entry)) (now («world_to_object» .entry)) reverse (now (ray .entry))) (now («record» .entry)) ⌝ }
+    ensures { λ _. ⌜ now (looked .exit) ≡ lookedAfter (metBy (now (piece .entry)) (now («object_to_world» .entry)) (now («world_to_object» .entry)) reverse (now (ray .entry))) (now (looked .entry)) ⌝ }
+{
+    let met = intersect::intersect(
+        piece,
+        matrix_from(object_to_world),
+        matrix_from(world_to_object),
+        0 < reverse,
+        ray_from(ray),
+    );
+    put_met(met, record, looked)
+}

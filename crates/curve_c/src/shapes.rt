@@ -1,0 +1,85 @@
+// Curves into a list, their boxes and areas.
+ghost use mathlib.Core.Path.{_≡_};
+ghost use lib.ListN.{length};
+ghost use Rattle.matrix.specs.Matrix.{matrixFrom};
+ghost use Rattle.curve.specs.Create.{paramsOf, createdOf, listAfter};
+ghost use Rattle.curve.specs.Bound.{objectBound, worldBound, areaIn};
+ghost use Rattle.curve_c.specs.Calls.{createdStatus, piecesAfter, boundStatus, boundAfter, areaStatus, areaAfter};
+use crate::floats::bounds_floats;
+use crate::floats::matrix_from;
+use curve::Bound;
+use curve::Created;
+use curve::Measured;
+
+#[no_mangle]
+pub extern "C" fn curve_create(
+    points: &[f32],
+    degree: u32,
+    basis: u32,
+    ty: u32,
+    width0: f32,
+    width1: f32,
+    splitdepth: u32,
+    list: &mut [f32],
+    pieces: &mut u32,
+) -> u32
+    ensures { λ r. ⌜ r ≡ createdStatus (createdOf (now (points .entry)) (paramsOf degree basis ty width0 width1 splitdepth) (length (now (list .entry)))) ⌝ }
+    ensures { λ _. ⌜ now (list .exit) ≡ listAfter (now (points .entry)) (paramsOf degree basis ty width0 width1 splitdepth) (now (list .entry)) ⌝ }
+    ensures { λ _. ⌜ now (pieces .exit) ≡ piecesAfter (createdOf (now (points .entry)) (paramsOf degree basis ty width0 width1 splitdepth) (length (now (list .entry)))) (now (pieces .entry)) ⌝ }
+{
+    match curve::create_curve_shape(points, degree, basis, ty, width0, width1, splitdepth, list) {
+        Created::Curves(n) => {
+            *pieces = n;
+            0
+        }
+        Created::Refused(number) => number as u32,
+    }
+}
+
+// Answers 0 with a box, or its refusal.
+fn put_bound(b: Bound, out: &mut [f32; 6]) -> u32
+    ensures { λ r. ⌜ r ≡ boundStatus b ⌝ }
+    ensures { λ _. ⌜ now (out .exit) ≡ boundAfter b (now (out .entry)) ⌝ }
+{
+    match b {
+        Bound::Bounds(b) => {
+            *out = bounds_floats(b);
+            0
+        }
+        Bound::Refused(number) => number as u32,
+    }
+}
+
+#[no_mangle]
+pub extern "C" fn curve_object_bound(piece: &[f32], out: &mut [f32; 6]) -> u32
+    ensures { λ r. ⌜ r ≡ boundStatus (objectBound (now (piece .entry))) ⌝ }
+    ensures { λ _. ⌜ now (out .exit) ≡ boundAfter (objectBound (now (piece .entry))) (now (out .entry)) ⌝ }
+{
+    put_bound(curve::object_bound(piece), out)
+}
+
+#[no_mangle]
+pub extern "C" fn curve_world_bound(
+    piece: &[f32],
+    object_to_world: &[f32; 16],
+    out: &mut [f32; 6],
+) -> u32
+    ensures { λ r. ⌜ r ≡ boundStatus (worldBound (now (piece .entry)) (matrixFrom (now («object_to_world» .entry)))) ⌝ }
+    ensures { λ _. ⌜ now (out .exit) ≡ boundAfter (worldBound (now (piece .entry)) (matrixFrom (now («object_to_world» .entry)))) (now (out .entry)) ⌝ }
+{
+    put_bound(curve::world_bound(piece, matrix_from(object_to_world)), out)
+}
+
+#[no_mangle]
+pub extern "C" fn curve_area(piece: &[f32], out: &mut f32) -> u32
+    ensures { λ r. ⌜ r ≡ areaStatus (areaIn (now (piece .entry))) ⌝ }
+    ensures { λ _. ⌜ now (out .exit) ≡ areaAfter (areaIn (now (piece .entry))) (now (out .entry)) ⌝ }
+{
+    match curve::area(piece) {
+        Measured::Area(a) => {
+            *out = a;
+            0
+        }
+        Measured::Refused(number) => number as u32,
+    }
+}
