@@ -1,10 +1,12 @@
 -- The reply by its segments: the walk's reply, finished, is what `repliedAt` says. Assumes nothing.
 use mathlib.Core.Bool.{Bool, true, false, false≢true, true≢false}
+use mathlib.Core.List.{List}
 use mathlib.Core.Option.{Option, none, some}
 use mathlib.Core.Path.{_≡_, refl, sym, ap, _∙_}
 use Prim.Native.Nat.{ℕ, suc, _+_, _^_, _≤_}
 use native.Mathlib.Numerals.{add-one}
 use native.Mathlib.Omega.{arith}
+use lib.Ieee.{Float}
 use lib.Pow.{pow-mono}
 use Rattle.curve.specs.declared.bezier.Cubic.{Cubic}
 use Rattle.curve.specs.declared.curve.Curve.{Curve}
@@ -22,11 +24,12 @@ use Rattle.segment.specs.declared.leaf.Leaf.the-variants.{Passes, Fails, NoFram
 use Rattle.intersect.specs.declared.walk.Walked.{Walked}
 use Rattle.intersect.specs.declared.walk.Walked.the-variants.{Hit, Miss, Refused}
 use Rattle.segment.specs.Depth.{depthOf}
+use Rattle.segment.specs.Fixed.{contextFrom, contextFloats}
 use Rattle.segment.specs.Halves.{lowHalf, highHalf, isThrown, isWholeThrown}
 use Rattle.segment.specs.Leaf.{leafOf}
-use Rattle.segment.proofs.Law.{depth-most, leaf-frame}
+use Rattle.segment.proofs.Law.{depth-most, context-back}
 use Rattle.intersect.specs.Walk.{sizeOf, entered, settled, isOver, walkIn}
-use Rattle.intersect.specs.Intersect.{passes, stops, replyOf, segmentAt, leafAt, stopOf, lastOf, countOf, repliedAt, intersectSegment, hitOf, finished}
+use Rattle.intersect.specs.Intersect.{passes, stops, replyOf, segmentAt, leafAt, stopOf, lastOf, countOf, repliedAt, intersectSegment, finished}
 
 abbrev Live : Walked → Type 0
 Live r = isOver r ≡ false
@@ -35,13 +38,13 @@ Live r = isOver r ≡ false
 
 over-enter : (r : Walked) → isOver (entered r) ≡ isOver r
 unfolding isOver entered
-over-enter (Hit at n) = refl
+over-enter (Hit at f n) = refl
 over-enter (Miss n) = refl
 over-enter (Refused k) = refl
 
 over-settle : (l : Leaf) (r : Walked) → Live r → isOver (settled l r) ≡ stops l
 unfolding isOver settled
-over-settle (Passes at f) (Hit before n) e = refl
+over-settle (Passes at f) (Hit before g n) e = refl
 over-settle (Passes at f) (Miss n) e = refl
 over-settle (Passes at f) (Refused k) e = absurd (true≢false e)
 over-settle Fails r e = e
@@ -49,7 +52,7 @@ over-settle (NoFrame k t) r e = refl
 
 settle-enter : (l : Leaf) (r : Walked) → settled l (entered r) ≡ entered (settled l r)
 unfolding entered settled
-settle-enter (Passes at f) (Hit before n) = refl
+settle-enter (Passes at f) (Hit before g n) = refl
 settle-enter (Passes at f) (Miss n) = refl
 settle-enter (Passes at f) (Refused k) = refl
 settle-enter Fails r = refl
@@ -57,7 +60,7 @@ settle-enter (NoFrame k t) r = refl
 
 -- the walk's reply that a leaf decides, with n segments counted
 abbrev walkedOf : ℕ → Leaf → Walked
-walkedOf n (Passes at f) = Hit at n
+walkedOf n (Passes at f) = Hit at f n
 walkedOf n Fails = Miss n
 walkedOf n (NoFrame k t) = Refused k
 
@@ -94,22 +97,19 @@ enter-reply n Fails = rw add-one
 enter-reply n (NoFrame k t) = refl
 
 module _ (c : Context) where
-  -- ---- the record is made at the end, of the frame that the leaf had
+  -- ---- the record is made at the end
 
-  finish-leaf : (n : ℕ) (s : Segment) → finished c (walkedOf n (leafOf c s)) ≡ replyOf c n (leafOf c s)
-  unfolding finished hitOf
-  finish-leaf n s = go (leafOf c s) refl
-    where
-      go : (l : Leaf) → leafOf c s ≡ l → finished c (walkedOf n l) ≡ replyOf c n l
-      go (Passes at f) e = rw (leaf-frame c s at f e)
-      go Fails e = refl
-      go (NoFrame k t) e = refl
+  finish-leaf : (n : ℕ) (l : Leaf) → finished c (walkedOf n l) ≡ replyOf c n l
+  unfolding finished
+  finish-leaf n (Passes at f) = refl
+  finish-leaf n Fails = refl
+  finish-leaf n (NoFrame k t) = refl
 
   finish-found : (n : ℕ) (segment : ℕ → Segment) (o : Option ℕ)
       → finished c (atOr (λ i. walkedOf n (leafOf c (segment i))) (Miss n) o) ≡ atOr (λ i. replyOf c n (leafOf c (segment i))) (reply.Miss n) o
   unfolding finished
   finish-found n segment none = refl
-  finish-found n segment (some i) = finish-leaf n (segment i)
+  finish-found n segment (some i) = finish-leaf n (leafOf c (segment i))
 
   -- ---- the walk
 
@@ -163,7 +163,7 @@ pub segment-shut : (c : Context) (s : Segment) (b : Bool) → b ≡ isWholeThrow
 unfolding intersectSegment
 segment-shut c s b e t = shut c s _ (sym e ∙ t)
 
-pub segment-walked : (c : Context) (s : Segment) (n : ℕ) (q : Walked) (r : Intersection) (b : Bool) → b ≡ isWholeThrown (c .curve) (c .zmax) s → b ≡ false
-    → n ≡ depthOf (c .curve) (s .cp) → q ≡ walkIn c n s (Miss 0) → r ≡ finished c q → r ≡ intersectSegment c s
+pub segment-walked : (c : Context) (s : Segment) (n : ℕ) (l : List Float) (q : Walked) (r : Intersection) (b : Bool) → b ≡ isWholeThrown (c .curve) (c .zmax) s → b ≡ false
+    → n ≡ depthOf (c .curve) (s .cp) → l ≡ contextFloats c → q ≡ walkIn (contextFrom l (c .flip)) n s (Miss 0) → r ≡ finished c q → r ≡ intersectSegment c s
 unfolding intersectSegment
-segment-walked c s n q r b e t m w f = rw (f, w, m) (walked c s (depthOf (c .curve) (s .cp)) (sym e ∙ t))
+segment-walked c s n l q r b e t m k w f = rw (f, w, m, k, context-back) (walked c s (depthOf (c .curve) (s .cp)) (sym e ∙ t))

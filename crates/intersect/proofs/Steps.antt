@@ -1,13 +1,17 @@
 -- The walk's code, step by step: what each return of `recursive_intersect` and `half_step` gives, and that the count has room. Assumes nothing.
 use mathlib.Core.Bool.{Bool, true, false}
+use mathlib.Core.List.{List}
 use mathlib.Core.Path.{_≡_, refl, sym, ap}
 use Prim.Native.Nat.{ℕ, zero, suc, _+_, _-_, _^_, _≤_, _<_}
 use native.Mathlib.Nat.{le-refl}
 use native.Mathlib.Omega.{arith}
+use lib.Ieee.{Float}
 use lib.Pow.{pow-pos}
 use Rattle.bisection.specs.Walk.{onward, walkOf}
 use Rattle.bisection.proofs.Pieces.{pow-two}
 use Rattle.bisection.proofs.Walked.{half-size}
+use Rattle.curve.specs.Curve.{curveFrom}
+use Rattle.curve.specs.declared.curve.Curve.{Curve}
 use Rattle.segment.specs.declared.frame.Context.{Context}
 use Rattle.segment.specs.declared.halves.Segment.{Segment}
 use Rattle.segment.specs.declared.halves.Halves.{Halves}
@@ -16,6 +20,7 @@ use Rattle.segment.specs.declared.leaf.Leaf.the-variants.{Passes, Fails, NoFram
 use Rattle.intersect.specs.declared.walk.Walked.{Walked}
 use Rattle.intersect.specs.declared.walk.Walked.the-variants.{Hit, Miss, Refused}
 use Rattle.segment.specs.Halves.{lowHalf, highHalf, halvesOf, isThrown}
+use Rattle.segment.specs.Fixed.{zmaxFrom, contextFrom}
 use Rattle.segment.specs.Leaf.{leafOf}
 use Rattle.intersect.specs.Walk.{sizeOf, entered, settled, isOver, walkIn, halfIn}
 
@@ -23,13 +28,13 @@ use Rattle.intersect.specs.Walk.{sizeOf, entered, settled, isOver, walkI
 
 entered-size : (r : Walked) → sizeOf (entered r) ≤ sizeOf r + 1
 unfolding sizeOf entered
-entered-size (Hit at n) = le-refl (n + 1)
+entered-size (Hit at f n) = le-refl (n + 1)
 entered-size (Miss n) = le-refl (n + 1)
 entered-size (Refused k) = omega arith
 
 settled-size : (l : Leaf) (r : Walked) → sizeOf (settled l r) ≤ sizeOf r
 unfolding sizeOf settled
-settled-size (Passes at f) (Hit before n) = le-refl n
+settled-size (Passes at f) (Hit before g n) = le-refl n
 settled-size (Passes at f) (Miss n) = le-refl n
 settled-size (Passes at f) (Refused k) = le-refl 0
 settled-size Fails r = le-refl (sizeOf r)
@@ -54,17 +59,24 @@ room-high c p d r e q f h u v =
 
 -- ---- the returns
 
-pub half-out : (c : Context) (s : Segment) (d : ℕ) (r : Walked) (b : Bool) → b ≡ isThrown (c .curve) (c .zmax) s → b ≡ true → r ≡ halfIn c d s r
-unfolding halfIn
-half-out c s d r b e t = rw (← e, t)
+module _ (l : List Float) (flip : Bool) (s : Segment) (d : ℕ) (r : Walked) (k : Curve) (z : Float) (b : Bool)
+    (curve : k ≡ curveFrom l) (limit : z ≡ zmaxFrom l) (tested : b ≡ isThrown k z s) where
+  is-tested : isThrown (contextFrom l flip .curve) (contextFrom l flip .zmax) s ≡ b
+  unfolding contextFrom
+  is-tested = cc
 
-pub half-in : (c : Context) (s : Segment) (d : ℕ) (r q : Walked) (b : Bool) → b ≡ isThrown (c .curve) (c .zmax) s → b ≡ false → q ≡ walkIn c d s r → q ≡ halfIn c d s r
-unfolding halfIn walkIn
-half-in c s d r q b e t w = rw (← e, t) w
+  pub half-out : b ≡ true → r ≡ halfIn (contextFrom l flip) d s r
+  unfolding halfIn
+  half-out t = rw (is-tested, t)
 
-pub walk-ends : (c : Context) (s : Segment) (d : ℕ) (r e q : Walked) (l : Leaf) → d ≡ 0 → e ≡ entered r → l ≡ leafOf c s → q ≡ settled l e → q ≡ walkIn c d s r
+  pub half-in : b ≡ false → (q : Walked) → q ≡ walkIn (contextFrom l flip) d s r → q ≡ halfIn (contextFrom l flip) d s r
+  unfolding halfIn walkIn
+  half-in t q w = rw (is-tested, t) w
+
+pub walk-ends : (l : List Float) (flip : Bool) (s : Segment) (d : ℕ) (r e q : Walked) (c : Context) (x : Leaf) → d ≡ 0 → e ≡ entered r → c ≡ contextFrom l flip → x ≡ leafOf c s → q ≡ settled x e
+    → q ≡ walkIn (contextFrom l flip) d s r
 unfolding walkIn walkOf
-walk-ends c s d r e q l z u v w = rw (w, v, u, z)
+walk-ends l flip s d r e q c x z u k v w = rw (w, v, k, u, z)
 
 -- the two halves of a walk that is not at its end
 walk-cuts : (c : Context) (s : Segment) (d : ℕ) (r : Walked) → (d ≡ 0 → ⊥) → walkIn c d s r ≡ onward isOver (halfIn c (d - 1) (highHalf s)) (halfIn c (d - 1) (lowHalf s) (entered r))

@@ -21,16 +21,13 @@ use Rattle.segment.specs.declared.frame.Context.{Context}
 use Rattle.segment.specs.declared.frame.Framed.{Framed}
 use Rattle.segment.specs.declared.frame.Framed.the-variants as framed
 use Rattle.segment.specs.declared.halves.Segment.{Segment}
-use Rattle.segment.specs.declared.leaf.Crossing.{Crossing}
-use Rattle.segment.specs.declared.leaf.Framing.{Framing}
-use Rattle.segment.specs.declared.leaf.Framing.the-variants as framing
 use Rattle.segment.specs.declared.leaf.Leaf.{Leaf}
 use Rattle.segment.specs.declared.leaf.Leaf.the-variants.{Passes, Fails, NoFrame}
 use Rattle.intersect.specs.declared.walk.Walked.{Walked}
 use Rattle.intersect.specs.declared.walk.Walked.the-variants as walked
 use Rattle.segment.specs.Depth.{depthOf}
 use Rattle.segment.specs.Frame.{framedCurve}
-use Rattle.segment.specs.Leaf.{frameOf, leafOf, recordOf}
+use Rattle.segment.specs.Leaf.{leafOf, recordOf}
 use Rattle.segment.specs.Halves.{lowHalf, highHalf, isThrown, isWholeThrown}
 
 -- ---- a leaf
@@ -125,15 +122,8 @@ intersectOf l o2w w2o reverse r = told Refused (firstOf (intersectRefusals l o2w
 unfoldable pub intersectWithin : Curve → Matrix4x4 → Matrix4x4 → Bool → Ray → Intersection
 intersectWithin c o2w w2o reverse r = told Refused (firstOf (rayRefusals o2w w2o r)) (intersectFramed (framedCurve c o2w w2o reverse r))
 
--- the record is made of the crossing at the end
-abbrev pub withFrame : Context → Crossing → ℕ → Framing → Intersection
-withFrame c at n (framing.Frame f) = Hit (recordOf c at f) n
-withFrame c at n (framing.NoFrame k) = Refused k
-
-unfoldable pub hitOf : Context → Crossing → ℕ → Intersection
-hitOf c at n = withFrame c at n (frameOf c (at .u))
-
+-- the record is made at the end
 unfoldable pub finished : Context → Walked → Intersection
-finished c (walked.Hit at n) = hitOf c at n
+finished c (walked.Hit at f n) = Hit (recordOf c at f) n
 finished c (walked.Miss n) = Miss n
 finished c (walked.Refused k) = Refused k

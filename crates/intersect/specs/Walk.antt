@@ -7,6 +7,7 @@ use Rattle.bisection.specs.Walk.{walkOf, halfOf}
 use Rattle.segment.specs.declared.frame.Context.{Context}
 use Rattle.segment.specs.declared.halves.Segment.{Segment}
 use Rattle.segment.specs.declared.leaf.Crossing.{Crossing}
+use Rattle.segment.specs.declared.leaf.Frame.{Frame}
 use Rattle.segment.specs.declared.leaf.Leaf.{Leaf}
 use Rattle.segment.specs.declared.leaf.Leaf.the-variants.{Passes, Fails, NoFrame}
 use Rattle.intersect.specs.declared.walk.Walked.{Walked}
@@ -16,30 +17,30 @@ use Rattle.segment.specs.Leaf.{leafOf}
 
 -- the count in a reply, and 0 of a refusal
 unfoldable pub sizeOf : Walked → ℕ
-sizeOf (Hit at n) = n
+sizeOf (Hit at f n) = n
 sizeOf (Miss n) = n
 sizeOf (Refused k) = 0
 
 -- one more segment
 unfoldable pub entered : Walked → Walked
-entered (Hit at n) = Hit at (n + 1)
+entered (Hit at f n) = Hit at f (n + 1)
 entered (Miss n) = Miss (n + 1)
 entered (Refused k) = Refused k
 
 -- a crossing after the reply so far: the later one stands
-abbrev pub hitOver : Crossing → Walked → Walked
-hitOver at (Hit before n) = Hit at n
-hitOver at (Miss n) = Hit at n
-hitOver at (Refused k) = Refused k
+abbrev pub hitOver : Crossing → Frame → Walked → Walked
+hitOver at f (Hit before g n) = Hit at f n
+hitOver at f (Miss n) = Hit at f n
+hitOver at f (Refused k) = Refused k
 
 unfoldable pub settled : Leaf → Walked → Walked
-settled (Passes at f) r = hitOver at r
+settled (Passes at f) r = hitOver at f r
 settled Fails r = r
 settled (NoFrame k t) r = Refused k
 
 -- a refusal, or a hit at distance 0
 unfoldable pub isOver : Walked → Bool
-isOver (Hit at n) = eq (at .t) 0f
+isOver (Hit at f n) = eq (at .t) 0f
 isOver (Miss n) = false
 isOver (Refused k) = true
 

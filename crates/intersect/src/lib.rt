@@ -1,7 +1,7 @@
 // The ray and the flat curve: `intersect` of Curve in src/shapes/curve.rs of pbrt-rust, by its names
 // and in its order of operations. Refusals are numbers, and nothing is asked of a caller.
 ghost use mathlib.Core.Path.{_≡_};
-ghost use Rattle.intersect.specs.Intersect.{rayWithin, hitOf, finished, intersectSegment, intersectFramed, intersectWithin, intersectOf};
+ghost use Rattle.intersect.specs.Intersect.{rayWithin, finished, intersectSegment, intersectFramed, intersectWithin, intersectOf};
 
 mod walk;
 
@@ -13,12 +13,10 @@ use curve::read;
 use geometry::Ray;
 use matrix::Matrix4x4;
 use segment::Context;
-use segment::Crossing;
 use segment::Framed;
-use segment::Framing;
 use segment::Segment;
 pub use segment::SurfaceInteraction;
-use segment::frame_at;
+use segment::context_floats;
 use segment::frame_curve;
 use segment::is_whole_thrown;
 use segment::max_depth;
@@ -48,21 +46,11 @@ fn is_ray_within(r: Ray) -> bool
         & (0.0 <= r.t_max)
 }
 
-// The hit at a crossing, after n segments.
-fn hit(c: Context, at: Crossing, n: u32) -> Intersection
-    ensures { λ r. ⌜ r ≡ hitOf c at n ⌝ }
-{
-    match frame_at(c, at.u) {
-        Framing::Frame(f) => Intersection::Hit(record_at(c, at, f), n),
-        Framing::NoFrame(number) => Intersection::Refused(number),
-    }
-}
-
 fn finish(c: Context, w: Walked) -> Intersection
     ensures { λ r. ⌜ r ≡ finished c w ⌝ }
 {
     match w {
-        Walked::Hit(at, n) => hit(c, at, n),
+        Walked::Hit(at, f, n) => Intersection::Hit(record_at(c, at, f), n),
         Walked::Miss(n) => Intersection::Miss(n),
         Walked::Refused(number) => Intersection::Refused(number),
     }
@@ -75,7 +63,11 @@ fn intersect_segment(c: Context, s: Segment) -> Intersection
         Intersection::Miss(0)
     } else {
         let cuts = max_depth(c.curve, s.cp);
-        finish(c, recursive_intersect(c, s, cuts, Walked::Miss(0)))
+        let fixed = context_floats(c);
+        finish(
+            c,
+            recursive_intersect(&fixed, c.flip, s, cuts, Walked::Miss(0)),
+        )
     }
 }
 

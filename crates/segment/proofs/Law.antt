@@ -1,4 +1,4 @@
--- What a leaf's answer says of the frame there, and which refusals there are. Assumes nothing.
+-- What a call holds fixed survives as floats; how deep a walk goes; which refusals a leaf has. Assumes nothing.
 use mathlib.Core.Bool.{Bool, true, false, cond}
 use mathlib.Core.Path.{_≡_, refl, subst}
 use Prim.Native.Nat.{ℕ, _≤_}
@@ -8,10 +8,11 @@ use Rattle.geometry.specs.declared.vector.Vector3f.{Vector3f}
 use Rattle.geometry.specs.declared.vector.Divided.{Divided}
 use Rattle.geometry.specs.declared.vector.Divided.the-variants.{Vector, ByZero}
 use Rattle.geometry.specs.Vector.{negated, normalized, crossOf}
+use Rattle.matrix.specs.Matrix.{flat}
 use Rattle.curve.specs.declared.bezier.Cubic.{Cubic}
 use Rattle.curve.specs.declared.curve.Curve.{Curve}
 use Rattle.curve.specs.Bezier.{evalOf}
-use Rattle.curve.specs.Curve.{widthAt}
+use Rattle.curve.specs.Curve.{pointFrom, cubicFrom, curveFrom, floatsOf, widthAt}
 use Rattle.segment.specs.declared.frame.Context.{Context}
 use Rattle.segment.specs.declared.halves.Segment.{Segment}
 use Rattle.segment.specs.declared.leaf.Crossing.{Crossing}
@@ -23,37 +24,21 @@ use Rattle.segment.specs.declared.leaf.Framing.the-variants as framing
 use Rattle.segment.specs.declared.leaf.Leaf.{Leaf}
 use Rattle.segment.specs.declared.leaf.Leaf.the-variants.{Passes, Fails, NoFrame}
 use Rattle.segment.specs.Depth.{depthAt, depthOf}
+use Rattle.segment.specs.Fixed.{rowAt, matrixAt, rayAt, zmaxFrom, contextFrom, rayFloats, contextFloats}
 use Rattle.segment.specs.Leaf.{isZero, crosswiseOf, outwardOf, withWo, alongOf, withNormal, withDpdv, frameOf, withFraming, leafFrom, withCrossing, crossingOf, leafOf}
+
+-- ---- what a call holds fixed
+
+-- nothing is lost in the floats that a walk lends
+pub context-back : (c : Context) → contextFrom (contextFloats c) (c .flip) ≡ c
+unfolding contextFrom contextFloats zmaxFrom rayAt rayFloats matrixAt rowAt floatsOf flat curveFrom cubicFrom pointFrom
+context-back c = refl
 
 -- ---- the depth
 
 pub depth-most : (c : Curve) (cp : Cubic) → depthOf c cp ≤ 10
 unfolding depthOf depthAt
 depth-most c cp = omega arith
-
--- ---- the leaf
-
--- the frame at a leaf's crossing, by its answer
-abbrev FrameIs : Context → Leaf → Type 0
-FrameIs c (Passes at f) = frameOf c (at .u) ≡ framing.Frame f
-FrameIs c Fails = Unit {0}
-FrameIs c (NoFrame k t) = (at : Crossing) × (frameOf c (at .u) ≡ framing.NoFrame k) × (t ≡ at .t)
-
-frame-is : (c : Context) (s : Segment) → FrameIs c (leafOf c s)
-unfolding leafOf leafFrom
-frame-is c s = crossed (crossingOf c s)
-  where
-    framed : (at : Crossing) (f : Framing) → frameOf c (at .u) ≡ f → FrameIs c (withFraming at f)
-    framed at (framing.Frame f) e = e
-    framed at (framing.NoFrame k) e = (at, e, refl)
-
-    crossed : (x : Crossed) → FrameIs c (withCrossing c x)
-    crossed (At at) = framed at (frameOf c (at .u)) refl
-    crossed Nowhere = tt
-
--- a leaf that passes with a frame has the frame at its crossing
-pub leaf-frame : (c : Context) (s : Segment) (at : Crossing) (f : Frame) → leafOf c s ≡ Passes at f → frameOf c (at .u) ≡ framing.Frame f
-leaf-frame c s at f e = subst (FrameIs c) e (frame-is c s)
 
 -- ---- the numbers of no frame
 
@@ -85,6 +70,24 @@ numbered c u = zero? (isZero dpdu)
     zero? true = (omega arith, omega arith)
     zero? false = crosswise (crosswiseOf (c .o2r) dpdu (widthAt (c .curve) u))
 
+-- so does a leaf
+abbrev LeafNumbered : Leaf → Type 0
+LeafNumbered (Passes at f) = Unit {0}
+LeafNumbered Fails = Unit {0}
+LeafNumbered (NoFrame k t) = (14 ≤ k) × (k ≤ 16)
+
+leaf-numbered : (c : Context) (s : Segment) → LeafNumbered (leafOf c s)
+unfolding leafOf leafFrom
+leaf-numbered c s = crossed (crossingOf c s)
+  where
+    framed : (at : Crossing) (f : Framing) → Numbered f → LeafNumbered (withFraming at f)
+    framed at (framing.Frame f) n = tt
+    framed at (framing.NoFrame k) n = n
+
+    crossed : (x : Crossed) → LeafNumbered (withCrossing c x)
+    crossed (At at) = framed at (frameOf c (at .u)) (numbered c (at .u))
+    crossed Nowhere = tt
+
 -- a leaf without a frame has the number 14, 15 or 16
 pub no-frame : (c : Context) (s : Segment) (k : ℕ) (t : Float) → leafOf c s ≡ NoFrame k t → (14 ≤ k) × (k ≤ 16)
-no-frame c s k t e = let h = subst (FrameIs c) e (frame-is c s) in subst Numbered (h .1) (numbered c (h .0 .u))
+no-frame c s k t e = subst LeafNumbered e (leaf-numbered c s)

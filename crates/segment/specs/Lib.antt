@@ -1,4 +1,5 @@
 pub mod Depth
+pub mod Fixed
 pub mod Frame
 pub mod Halves
 pub mod Leaf

@@ -120,7 +120,7 @@ pub struct Frame {
 }
 
 // A frame, or the number of the refusal (01: no frame).
-pub enum Framing {
+enum Framing {
     Frame(Frame),
     NoFrame(u8),
 }
@@ -176,7 +176,7 @@ fn along(c: Context, dpdu: Vector3f, dpdv: Vector3f) -> Framing
 }
 
 // The frame at u. The derivative is that of the segment's own control points.
-pub fn frame_at(c: Context, u: f32) -> Framing
+fn frame_at(c: Context, u: f32) -> Framing
     ensures { λ r. ⌜ r ≡ frameOf c u ⌝ }
 {
     let at = eval_bezier(c.curve.cp, u);

@@ -2,12 +2,18 @@
 // halves and the tests that throw one out, and the leaf. Parts of `intersect` and recursive_intersect
 // of src/shapes/curve.rs of pbrt-rust, by their names and in their order of operations.
 mod depth;
+mod fixed;
 mod frame;
 mod halves;
 mod interaction;
 mod leaf;
 
 pub use depth::max_depth;
+pub use fixed::FIXED;
+pub use fixed::context_floats;
+pub use fixed::context_from;
+pub use fixed::curve_in;
+pub use fixed::zmax_in;
 pub use frame::Context;
 pub use frame::Framed;
 pub use frame::frame_curve;
@@ -19,8 +25,6 @@ pub use halves::is_whole_thrown;
 pub use interaction::SurfaceInteraction;
 pub use leaf::Crossing;
 pub use leaf::Frame;
-pub use leaf::Framing;
 pub use leaf::Leaf;
-pub use leaf::frame_at;
 pub use leaf::record_at;
 pub use leaf::run_leaf;

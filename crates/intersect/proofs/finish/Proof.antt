@@ -7,7 +7,7 @@ use Rattle.intersect.proofs.finish.Tie as tie
 
 returns : tie.Need-returns
 unfolding finished
-returns c = rw (c .before .before .w .given .1, ← c .hit .ensures)
+returns c = rw (c .before .before .w .given .1, ← c .record-at .ensures)
 
 returns-2 : tie.Need-returns-2
 unfolding finished

@@ -10,6 +10,9 @@ use Rattle.intersect.proofs.walk.+half_step+recursive_intersect.Lts-hal
 use Rattle.intersect.proofs.walk.recursive_intersect.Reads as walk
 use Rattle.intersect.proofs.walk.recursive_intersect.Kinds as walk-kinds
 use Rattle.intersect.proofs.walk.+half_step+recursive_intersect.Lts-recursive_intersect as walk-lts
+use Rattle.segment.proofs.context_from.Reads as context-from-reads
+use Rattle.segment.proofs.curve_in.Reads as curve-in-reads
+use Rattle.segment.proofs.zmax_in.Reads as zmax-in-reads
 use Rattle.segment.proofs.run_leaf.Reads as run-leaf-reads
 use Rattle.segment.proofs.halve.Reads as halve-reads
 use Rattle.segment.proofs.is_thrown.Reads as is-thrown-reads
@@ -20,32 +23,34 @@ use Rattle.intersect.proofs.Steps.{room-enter, room-low, room-high, hal
 use Rattle.intersect.proofs.walk.+half_step+recursive_intersect.{statement}
 use Rattle.intersect.proofs.walk.+half_step+recursive_intersect.Tie.{close}
 
-abbrev μ-half-step : Measures 0 half-step-kinds.ps ℕ
-μ-half-step κs a = 2 * a .1 .1 .0 + 1
+abbrev μ-half-step : Measures 1 half-step-kinds.ps ℕ
+μ-half-step κs a = 2 * a .1 .1 .1 .0 + 1
 
-abbrev μ-walk : Measures 0 walk-kinds.ps ℕ
-μ-walk κs a = 2 * a .1 .1 .0
+abbrev μ-walk : Measures 1 walk-kinds.ps ℕ
+μ-walk κs a = 2 * a .1 .1 .1 .0
 
-abbrev half-step-at : ℕ → In 0 half-step-kinds.ps
-half-step-at t = and 0 half-step-kinds.ps (is 0 half-step-kinds.ps μ-half-step t) half-step.Pre
+abbrev half-step-at : ℕ → In 1 half-step-kinds.ps
+half-step-at t = and 1 half-step-kinds.ps (is 1 half-step-kinds.ps μ-half-step t) half-step.Pre
 
-abbrev half-step-below : ℕ → In 0 half-step-kinds.ps
-half-step-below t = and 0 half-step-kinds.ps (falls 0 half-step-kinds.ps _<_ μ-half-step t) half-step.Pre
+abbrev half-step-below : ℕ → In 1 half-step-kinds.ps
+half-step-below t = and 1 half-step-kinds.ps (falls 1 half-step-kinds.ps _<_ μ-half-step t) half-step.Pre
 
-abbrev walk-at : ℕ → In 0 walk-kinds.ps
-walk-at t = and 0 walk-kinds.ps (is 0 walk-kinds.ps μ-walk t) walk.Pre
+abbrev walk-at : ℕ → In 1 walk-kinds.ps
+walk-at t = and 1 walk-kinds.ps (is 1 walk-kinds.ps μ-walk t) walk.Pre
 
-abbrev walk-below : ℕ → In 0 walk-kinds.ps
-walk-below t = and 0 walk-kinds.ps (falls 0 walk-kinds.ps _<_ μ-walk t) walk.Pre
+abbrev walk-below : ℕ → In 1 walk-kinds.ps
+walk-below t = and 1 walk-kinds.ps (falls 1 walk-kinds.ps _<_ μ-walk t) walk.Pre
 
 -- what each is told of the functions that it calls
 abbrev half-step-calls : ℕ → half-step-lts.Claims
-half-step-calls t = (is-thrown-reads.Asked, is-thrown-reads.Learnt, walk-below t, walk.Post)
+half-step-calls t = (curve-in-reads.Asked, curve-in-reads.Learnt, zmax-in-reads.Asked, zmax-in-reads.Learnt, is-thrown-reads.Asked, is-thrown-reads.Learnt, walk-below t, walk.Post)
 
 abbrev walk-calls : ℕ → walk-lts.Claims
 walk-calls t = (
   enter-reads.Asked,
   enter-reads.Learnt,
+  context-from-reads.Asked,
+  context-from-reads.Learnt,
   run-leaf-reads.Asked,
   run-leaf-reads.Learnt,
   settle-reads.Asked,
@@ -59,13 +64,15 @@ walk-calls t = (
 )
 
 half-step-walk-requires : (t : ℕ) → half-step-lts.Need-recursive-intersect-requires (half-step-calls t) (half-step-at t) half-step.Post
-half-step-walk-requires t c κs = (omega arith, c .before .before .pre .1)
+half-step-walk-requires t c κs = (omega arith, c .before .before .before .before .pre .1)
 
 half-step-returns : (t : ℕ) → half-step-lts.Need-returns (half-step-calls t) (half-step-at t) half-step.Post
-half-step-returns t c = half-out _ _ _ _ _ (c .before .is-thrown .ensures) (c .if1 .taken)
+half-step-returns t c = half-out _ _ _ _ _ _ _ _ (c .before .before .before .curve-in .ensures) (c .before .before .zmax-in .ensures) (c .before .is-thrown .ensures) (c .if1 .taken)
 
 half-step-returns-2 : (t : ℕ) → half-step-lts.Need-returns-2 (half-step-calls t) (half-step-at t) half-step.Post
-half-step-returns-2 t c = half-in _ _ _ _ _ _ (c .before .before .is-thrown .ensures) (c .before .if1 .left) (c .recursive-intersect .ensures)
+half-step-returns-2 t c =
+    let tested = c .before .before in
+    half-in _ _ _ _ _ _ _ _ (tested .before .before .curve-in .ensures) (tested .before .zmax-in .ensures) (tested .is-thrown .ensures) (c .before .if1 .left) _ (c .recursive-intersect .ensures)
 
 walk-enter-requires : (t : ℕ) → walk-lts.Need-enter-requires (walk-calls t) (walk-at t) walk.Post
 walk-enter-requires t c κs = room-enter _ _ (c .pre .1)
@@ -79,7 +86,9 @@ walk-half-step-requires-2 t c κs =
     (omega arith, room-high _ _ _ _ _ _ (halved .before .if1 .left) (halved .before .before .before .pre .1) (halved .before .before .enter .ensures) (c .before .before .half-step .ensures))
 
 walk-returns : (t : ℕ) → walk-lts.Need-returns (walk-calls t) (walk-at t) walk.Post
-walk-returns t c = walk-ends _ _ _ _ _ _ _ (c .before .before .if1 .taken) (c .before .before .before .enter .ensures) (c .before .run-leaf .ensures) (c .settle .ensures)
+walk-returns t c =
+    let entered = c .before .before .before in
+    walk-ends _ _ _ _ _ _ _ _ _ (entered .if1 .taken) (entered .before .enter .ensures) (c .before .before .context-from .ensures) (c .before .run-leaf .ensures) (c .settle .ensures)
 
 walk-returns-2 : (t : ℕ) → walk-lts.Need-returns-2 (walk-calls t) (walk-at t) walk.Post
 walk-returns-2 t c =
@@ -95,5 +104,5 @@ walk-returns-3 t c =
 pub +half-step+recursive-intersect-spec : {M : Type 1} → statement M
 +half-step+recursive-intersect-spec =
     close μ-half-step μ-walk
-    (λ t. half-step-lts.spec (half-step-calls t) (half-step-at t) half-step.Post (λ c κs. tt) (half-step-walk-requires t) (half-step-returns t) (half-step-returns-2 t))
-    (λ t. walk-lts.spec (walk-calls t) (walk-at t) walk.Post (walk-enter-requires t) (λ c κs. tt) (λ c κs. tt) (λ c κs. tt) (λ c. omega arith) (walk-half-step-requires t) (λ c κs. tt) (λ c. omega arith) (walk-half-step-requires-2 t) (walk-returns t) (walk-returns-2 t) (walk-returns-3 t))
+    (λ t. half-step-lts.spec (half-step-calls t) (half-step-at t) half-step.Post (λ c κs. tt) (λ c κs. tt) (λ c κs. tt) (half-step-walk-requires t) (half-step-returns t) (half-step-returns-2 t))
+    (λ t. walk-lts.spec (walk-calls t) (walk-at t) walk.Post (walk-enter-requires t) (λ c κs. tt) (λ c κs. tt) (λ c κs. tt) (λ c κs. tt) (λ c. omega arith) (walk-half-step-requires t) (λ c κs. tt) (λ c. omega arith) (walk-half-step-requires-2 t) (walk-returns t) (walk-returns-2 t) (walk-returns-3 t))

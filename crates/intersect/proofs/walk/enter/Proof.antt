@@ -7,13 +7,13 @@ use Rattle.intersect.specs.Walk.{sizeOf, entered}
 use Rattle.intersect.proofs.walk.enter.Statement.{statement}
 use Rattle.intersect.proofs.walk.enter.Tie as tie
 
-add-t7 : tie.Need-add-t7
-unfolding sizeOf
-add-t7 c = omega (arith, ap sizeOf (c .before .so-far .given .1))
-
 add-t8 : tie.Need-add-t8
 unfolding sizeOf
-add-t8 c = omega (arith, ap sizeOf (c .before .so-far2 .given .1))
+add-t8 c = omega (arith, ap sizeOf (c .before .so-far .given .1))
+
+add-t9 : tie.Need-add-t9
+unfolding sizeOf
+add-t9 c = omega (arith, ap sizeOf (c .before .so-far2 .given .1))
 
 returns : tie.Need-returns
 unfolding entered
@@ -28,4 +28,4 @@ unfolding entered
 returns-3 c = rw (c .before .so-far3 .given .1)
 
 pub enter-spec : {M : Type 1} → statement M
-enter-spec = tie.close (tie.spec (λ c. search needs) add-t7 (λ c. search needs) add-t8 (λ c. search needs) returns returns-2 returns-3)
+enter-spec = tie.close (tie.spec (λ c. search needs) add-t8 (λ c. search needs) add-t9 (λ c. search needs) returns returns-2 returns-3)

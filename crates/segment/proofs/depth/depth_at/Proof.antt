@@ -1,5 +1,4 @@
--- `segment::depth::depth_at` meets its contract: each return rewrites by the facts on its way.
--- Assumes nothing.
+-- `segment::depth::depth_at` meets its contract: each return rewrites by the facts on its way. Assumes nothing.
 use native.Mathlib.Omega.{arith}
 use Rattle.segment.specs.Depth.{depthAt}
 use Rattle.segment.proofs.depth.depth_at.Statement.{statement}

@@ -1,5 +1,4 @@
--- `segment::depth::flatness_ratio` meets its contract: each return rewrites by the facts on its way.
--- Assumes nothing.
+-- `segment::depth::flatness_ratio` meets its contract: each return rewrites by the facts on its way. Assumes nothing.
 use Rattle.segment.specs.Depth.{flatness}
 use Rattle.segment.proofs.depth.flatness_ratio.Statement.{statement}
 use Rattle.segment.proofs.depth.flatness_ratio.Tie as tie

@@ -1,5 +1,4 @@
--- `segment::depth::largest_of` meets its contract: each return rewrites by the facts on its way.
--- Assumes nothing.
+-- `segment::depth::largest_of` meets its contract: each return rewrites by the facts on its way. Assumes nothing.
 use Rattle.segment.specs.Depth.{bendsAt}
 use Rattle.segment.proofs.depth.largest_of.Statement.{statement}
 use Rattle.segment.proofs.depth.largest_of.Tie as tie

@@ -1,5 +1,4 @@
--- `segment::depth::largest_second_difference` meets its contract: each return rewrites by the facts on its way.
--- Assumes nothing.
+-- `segment::depth::largest_second_difference` meets its contract: each return rewrites by the facts on its way. Assumes nothing.
 use Rattle.segment.specs.Depth.{greatestBend}
 use Rattle.segment.proofs.depth.largest_second_difference.Statement.{statement}
 use Rattle.segment.proofs.depth.largest_second_difference.Tie as tie

@@ -1,5 +1,4 @@
--- `segment::depth::log2` meets its contract: each return rewrites by the facts on its way.
--- Assumes nothing.
+-- `segment::depth::log2` meets its contract: each return rewrites by the facts on its way. Assumes nothing.
 use native.Mathlib.Omega.{arith}
 use Rattle.segment.specs.Depth.{exponentOf, logOf}
 use Rattle.segment.proofs.depth.log2.Statement.{statement}

@@ -1,5 +1,4 @@
--- `segment::depth::max_depth` meets its contract: each return rewrites by the facts on its way.
--- Assumes nothing.
+-- `segment::depth::max_depth` meets its contract: each return rewrites by the facts on its way. Assumes nothing.
 use Rattle.segment.specs.Depth.{depthOf}
 use Rattle.segment.proofs.depth.max_depth.Statement.{statement}
 use Rattle.segment.proofs.depth.max_depth.Tie as tie

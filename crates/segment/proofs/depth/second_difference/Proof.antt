@@ -1,5 +1,4 @@
--- `segment::depth::second_difference` meets its contract: each return rewrites by the facts on its way.
--- Assumes nothing.
+-- `segment::depth::second_difference` meets its contract: each return rewrites by the facts on its way. Assumes nothing.
 use Rattle.segment.specs.Depth.{bend}
 use Rattle.segment.proofs.depth.second_difference.Statement.{statement}
 use Rattle.segment.proofs.depth.second_difference.Tie as tie

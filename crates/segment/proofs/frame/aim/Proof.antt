@@ -1,5 +1,4 @@
--- `segment::frame::aim` meets its contract: each return rewrites by the facts on its way.
--- Assumes nothing.
+-- `segment::frame::aim` meets its contract: each return rewrites by the facts on its way. Assumes nothing.
 use borrow.Author.Needs.{needs}
 use Rattle.segment.specs.Frame.{aimedAt}
 use Rattle.segment.proofs.frame.aim.Statement.{statement}

@@ -1,5 +1,4 @@
--- `segment::frame::context_for` meets its contract: each return rewrites by the facts on its way.
--- Assumes nothing.
+-- `segment::frame::context_for` meets its contract: each return rewrites by the facts on its way. Assumes nothing.
 use Rattle.segment.specs.Frame.{contextOf}
 use Rattle.segment.proofs.frame.context_for.Statement.{statement}
 use Rattle.segment.proofs.frame.context_for.Tie as tie

@@ -1,5 +1,4 @@
--- `segment::frame::flips` meets its contract: each return rewrites by the facts on its way.
--- Assumes nothing.
+-- `segment::frame::flips` meets its contract: each return rewrites by the facts on its way. Assumes nothing.
 use Rattle.segment.specs.Frame.{flipsOf}
 use Rattle.segment.proofs.frame.flips.Statement.{statement}
 use Rattle.segment.proofs.frame.flips.Tie as tie

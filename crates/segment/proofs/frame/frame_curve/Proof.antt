@@ -1,5 +1,4 @@
--- `segment::frame::frame_curve` meets its contract: each return rewrites by the facts on its way.
--- Assumes nothing.
+-- `segment::frame::frame_curve` meets its contract: each return rewrites by the facts on its way. Assumes nothing.
 use borrow.Author.Needs.{needs}
 use Rattle.segment.specs.Frame.{framedCurve}
 use Rattle.segment.proofs.frame.frame_curve.Statement.{statement}

@@ -1,5 +1,4 @@
--- `segment::frame::in_ray_frame` meets its contract: each return rewrites by the facts on its way.
--- Assumes nothing.
+-- `segment::frame::in_ray_frame` meets its contract: each return rewrites by the facts on its way. Assumes nothing.
 use borrow.Author.Needs.{needs}
 use Rattle.segment.specs.Frame.{inRayFrame}
 use Rattle.segment.proofs.frame.in_ray_frame.Statement.{statement}

@@ -1,5 +1,4 @@
--- `segment::frame::pair_up` meets its contract: each return rewrites by the facts on its way.
--- Assumes nothing.
+-- `segment::frame::pair_up` meets its contract: each return rewrites by the facts on its way. Assumes nothing.
 use borrow.Author.Needs.{needs}
 use Rattle.segment.specs.Frame.{pairOf}
 use Rattle.segment.proofs.frame.pair_up.Statement.{statement}

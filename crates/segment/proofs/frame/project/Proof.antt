@@ -1,5 +1,4 @@
--- `segment::frame::project` meets its contract: each return rewrites by the facts on its way.
--- Assumes nothing.
+-- `segment::frame::project` meets its contract: each return rewrites by the facts on its way. Assumes nothing.
 use Rattle.segment.specs.Frame.{projectedCubic}
 use Rattle.segment.proofs.frame.project.Statement.{statement}
 use Rattle.segment.proofs.frame.project.Tie as tie

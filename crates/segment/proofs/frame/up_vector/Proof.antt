@@ -1,5 +1,4 @@
--- `segment::frame::up_vector` meets its contract: each return rewrites by the facts on its way.
--- Assumes nothing.
+-- `segment::frame::up_vector` meets its contract: each return rewrites by the facts on its way. Assumes nothing.
 use borrow.Author.Needs.{needs}
 use Rattle.segment.specs.Frame.{upVector}
 use Rattle.segment.proofs.frame.up_vector.Statement.{statement}

@@ -1,5 +1,4 @@
--- `segment::halves::half_width` meets its contract: each return rewrites by the facts on its way.
--- Assumes nothing.
+-- `segment::halves::half_width` meets its contract: each return rewrites by the facts on its way. Assumes nothing.
 use Rattle.segment.specs.Halves.{halfWidth}
 use Rattle.segment.proofs.halves.half_width.Statement.{statement}
 use Rattle.segment.proofs.halves.half_width.Tie as tie

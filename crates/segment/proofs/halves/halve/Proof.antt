@@ -1,5 +1,4 @@
--- `segment::halves::halve` meets its contract: each return rewrites by the facts on its way.
--- Assumes nothing.
+-- `segment::halves::halve` meets its contract: each return rewrites by the facts on its way. Assumes nothing.
 use Rattle.segment.specs.Halves.{lowHalf, highHalf, halvesOf}
 use Rattle.segment.proofs.halves.halve.Statement.{statement}
 use Rattle.segment.proofs.halves.halve.Tie as tie

@@ -1,5 +1,4 @@
--- `segment::halves::is_off` meets its contract: each return rewrites by the facts on its way.
--- Assumes nothing.
+-- `segment::halves::is_off` meets its contract: each return rewrites by the facts on its way. Assumes nothing.
 use Rattle.segment.specs.Halves.{isOff}
 use Rattle.segment.proofs.halves.is_off.Statement.{statement}
 use Rattle.segment.proofs.halves.is_off.Tie as tie

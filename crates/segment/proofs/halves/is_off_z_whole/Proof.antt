@@ -1,5 +1,4 @@
--- `segment::halves::is_off_z_whole` meets its contract: each return rewrites by the facts on its way.
--- Assumes nothing.
+-- `segment::halves::is_off_z_whole` meets its contract: each return rewrites by the facts on its way. Assumes nothing.
 use Rattle.segment.specs.Halves.{isOffZWhole}
 use Rattle.segment.proofs.halves.is_off_z_whole.Statement.{statement}
 use Rattle.segment.proofs.halves.is_off_z_whole.Tie as tie

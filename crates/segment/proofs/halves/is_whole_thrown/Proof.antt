@@ -1,5 +1,4 @@
--- `segment::halves::is_whole_thrown` meets its contract: each return rewrites by the facts on its way.
--- Assumes nothing.
+-- `segment::halves::is_whole_thrown` meets its contract: each return rewrites by the facts on its way. Assumes nothing.
 use Rattle.segment.specs.Halves.{isOffY, isOffX, isWholeThrown}
 use Rattle.segment.proofs.halves.is_whole_thrown.Statement.{statement}
 use Rattle.segment.proofs.halves.is_whole_thrown.Tie as tie

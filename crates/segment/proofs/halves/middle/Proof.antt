@@ -1,5 +1,4 @@
--- `segment::halves::middle` meets its contract: each return rewrites by the facts on its way.
--- Assumes nothing.
+-- `segment::halves::middle` meets its contract: each return rewrites by the facts on its way. Assumes nothing.
 use mathlib.Core.Path.{refl}
 use Rattle.segment.specs.Halves.{middleOf}
 use Rattle.segment.proofs.halves.middle.Statement.{statement}

@@ -1,5 +1,4 @@
--- `segment::leaf::along` meets its contract: each return rewrites by the facts on its way.
--- Assumes nothing.
+-- `segment::leaf::along` meets its contract: each return rewrites by the facts on its way. Assumes nothing.
 use borrow.Author.Needs.{needs}
 use Rattle.segment.specs.Leaf.{alongOf}
 use Rattle.segment.proofs.leaf.along.Statement.{statement}

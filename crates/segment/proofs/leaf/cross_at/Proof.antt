@@ -1,5 +1,4 @@
--- `segment::leaf::cross_at` meets its contract: each return rewrites by the facts on its way.
--- Assumes nothing.
+-- `segment::leaf::cross_at` meets its contract: each return rewrites by the facts on its way. Assumes nothing.
 use Rattle.segment.specs.Leaf.{crossingAt}
 use Rattle.segment.proofs.leaf.cross_at.Statement.{statement}
 use Rattle.segment.proofs.leaf.cross_at.Tie as tie

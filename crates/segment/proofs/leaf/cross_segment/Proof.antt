@@ -1,5 +1,4 @@
--- `segment::leaf::cross_segment` meets its contract: each return rewrites by the facts on its way.
--- Assumes nothing.
+-- `segment::leaf::cross_segment` meets its contract: each return rewrites by the facts on its way. Assumes nothing.
 use Rattle.segment.specs.Leaf.{crossingOf}
 use Rattle.segment.proofs.leaf.cross_segment.Statement.{statement}
 use Rattle.segment.proofs.leaf.cross_segment.Tie as tie

@@ -1,5 +1,4 @@
--- `segment::leaf::edge_end` meets its contract: each return rewrites by the facts on its way.
--- Assumes nothing.
+-- `segment::leaf::edge_end` meets its contract: each return rewrites by the facts on its way. Assumes nothing.
 use mathlib.Core.Path.{refl}
 use Rattle.segment.specs.Leaf.{edgeEnd}
 use Rattle.segment.proofs.leaf.edge_end.Statement.{statement}

@@ -1,5 +1,4 @@
--- `segment::leaf::edge_start` meets its contract: each return rewrites by the facts on its way.
--- Assumes nothing.
+-- `segment::leaf::edge_start` meets its contract: each return rewrites by the facts on its way. Assumes nothing.
 use mathlib.Core.Path.{refl}
 use Rattle.segment.specs.Leaf.{edgeStart}
 use Rattle.segment.proofs.leaf.edge_start.Statement.{statement}

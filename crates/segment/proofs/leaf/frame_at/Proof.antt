@@ -1,5 +1,4 @@
--- `segment::leaf::frame_at` meets its contract: each return rewrites by the facts on its way.
--- Assumes nothing.
+-- `segment::leaf::frame_at` meets its contract: each return rewrites by the facts on its way. Assumes nothing.
 use borrow.Author.Needs.{needs}
 use Rattle.segment.specs.Leaf.{frameOf}
 use Rattle.segment.proofs.leaf.frame_at.Statement.{statement}

@@ -1,5 +1,4 @@
--- `segment::leaf::is_zero` meets its contract: each return rewrites by the facts on its way.
--- Assumes nothing.
+-- `segment::leaf::is_zero` meets its contract: each return rewrites by the facts on its way. Assumes nothing.
 use mathlib.Core.Path.{refl}
 use Rattle.segment.specs.Leaf.{isZero}
 use Rattle.segment.proofs.leaf.is_zero.Statement.{statement}

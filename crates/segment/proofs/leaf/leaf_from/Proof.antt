@@ -1,5 +1,4 @@
--- `segment::leaf::leaf_from` meets its contract: each return rewrites by the facts on its way.
--- Assumes nothing.
+-- `segment::leaf::leaf_from` meets its contract: each return rewrites by the facts on its way. Assumes nothing.
 use borrow.Author.Needs.{needs}
 use Rattle.segment.specs.Leaf.{leafFrom}
 use Rattle.segment.proofs.leaf.leaf_from.Statement.{statement}

@@ -1,5 +1,4 @@
--- `segment::leaf::line_at` meets its contract: each return rewrites by the facts on its way.
--- Assumes nothing.
+-- `segment::leaf::line_at` meets its contract: each return rewrites by the facts on its way. Assumes nothing.
 use Rattle.segment.specs.Leaf.{lineAt}
 use Rattle.segment.proofs.leaf.line_at.Statement.{statement}
 use Rattle.segment.proofs.leaf.line_at.Tie as tie

@@ -1,5 +1,4 @@
--- `segment::leaf::oriented` meets its contract: each return rewrites by the facts on its way.
--- Assumes nothing.
+-- `segment::leaf::oriented` meets its contract: each return rewrites by the facts on its way. Assumes nothing.
 use Rattle.segment.specs.Leaf.{orientedOf}
 use Rattle.segment.proofs.leaf.oriented.Statement.{statement}
 use Rattle.segment.proofs.leaf.oriented.Tie as tie

@@ -1,5 +1,4 @@
--- `segment::leaf::outward` meets its contract: each return rewrites by the facts on its way.
--- Assumes nothing.
+-- `segment::leaf::outward` meets its contract: each return rewrites by the facts on its way. Assumes nothing.
 use borrow.Author.Needs.{needs}
 use Rattle.segment.specs.Leaf.{outwardOf}
 use Rattle.segment.proofs.leaf.outward.Statement.{statement}

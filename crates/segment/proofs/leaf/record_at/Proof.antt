@@ -1,5 +1,4 @@
--- `segment::leaf::record_at` meets its contract: each return rewrites by the facts on its way.
--- Assumes nothing.
+-- `segment::leaf::record_at` meets its contract: each return rewrites by the facts on its way. Assumes nothing.
 use Rattle.segment.specs.Leaf.{recordOf}
 use Rattle.segment.proofs.leaf.record_at.Statement.{statement}
 use Rattle.segment.proofs.leaf.record_at.Tie as tie

@@ -1,5 +1,4 @@
--- `segment::leaf::run_leaf` meets its contract: each return rewrites by the facts on its way.
--- Assumes nothing.
+-- `segment::leaf::run_leaf` meets its contract: each return rewrites by the facts on its way. Assumes nothing.
 use borrow.Author.Needs.{needs}
 use Rattle.segment.specs.Leaf.{leafOf}
 use Rattle.segment.proofs.leaf.run_leaf.Statement.{statement}

@@ -1,5 +1,4 @@
--- `segment::leaf::segment_dir` meets its contract: each return rewrites by the facts on its way.
--- Assumes nothing.
+-- `segment::leaf::segment_dir` meets its contract: each return rewrites by the facts on its way. Assumes nothing.
 use Rattle.segment.specs.Leaf.{segmentDir}
 use Rattle.segment.proofs.leaf.segment_dir.Statement.{statement}
 use Rattle.segment.proofs.leaf.segment_dir.Tie as tie

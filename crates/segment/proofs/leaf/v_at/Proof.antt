@@ -1,5 +1,4 @@
--- `segment::leaf::v_at` meets its contract: each return rewrites by the facts on its way.
--- Assumes nothing.
+-- `segment::leaf::v_at` meets its contract: each return rewrites by the facts on its way. Assumes nothing.
 use Rattle.segment.specs.Leaf.{vAt}
 use Rattle.segment.proofs.leaf.v_at.Statement.{statement}
 use Rattle.segment.proofs.leaf.v_at.Tie as tie
