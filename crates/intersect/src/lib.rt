@@ -64,10 +64,8 @@ fn intersect_segment(c: Context, s: Segment) -> Intersection
     } else {
         let cuts = max_depth(c.curve, s.cp);
         let fixed = context_floats(c);
-        finish(
-            c,
-            recursive_intersect(&fixed, c.flip, s, cuts, Walked::Miss(0)),
-        )
+        let walked = recursive_intersect(&fixed, c.flip, s, cuts, Walked::Miss(0));
+        finish(c, walked)
     }
 }
 
