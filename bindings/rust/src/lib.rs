@@ -1,0 +1,324 @@
+//! Where does a scanner's beam meet a curved belt? A belt is a flat cubic curve with a width, a beam is a
+//! ray. A safe wrapper of the proved library `libcurve_c.a`, which answers bit by bit as `curve.rs` of
+//! pbrt-rust does.
+//!
+//! [`create_curve_shape`] lays curves into a list, sixteen floats each: four control points, two widths,
+//! umin and umax. The other calls take one curve out of it. Every call ends with an answer or with a
+//! [`Refusal`], for every input, and a refusal leaves the list as it was. Nothing panics, and nothing is
+//! allocated but the beams of a [`Sheet`].
+//!
+//! A straight belt from x = -3 to 3 at z = 4, and a beam up from the origin, which meets it at distance 4,
+//! half way along and in its middle:
+//!
+//! ```
+//! use curve::{Basis, CurveType, Intersection, Params, Ray, CURVE_FLOATS, IDENTITY};
+//!
+//! let points = [[-3.0, 0.0, 4.0], [-1.0, 0.0, 4.0], [1.0, 0.0, 4.0], [3.0, 0.0, 4.0]];
+//! let params = Params {
+//!     degree: 3,
+//!     basis: Basis::Bezier,
+//!     curve_type: CurveType::Flat,
+//!     width0: 1.0,
+//!     width1: 1.0,
+//!     splitdepth: 0,
+//! };
+//! let mut list = [0.0; CURVE_FLOATS];
+//! assert_eq!(curve::create_curve_shape(&points, &params, &mut list)?, 1);
+//!
+//! let ray = Ray {
+//!     o: [0.0, 0.0, 0.0],
+//!     d: [0.0, 0.0, 1.0],
+//!     t_max: f32::INFINITY,
+//!     time: 0.0,
+//! };
+//! match curve::intersect(&list, &IDENTITY, &IDENTITY, false, &ray)? {
+//!     Intersection::Hit(hit, looked) => {
+//!         assert_eq!((hit.t_hit, hit.u, hit.v), (4.0, 0.5, 0.5));
+//!         assert_eq!(looked, 1);
+//!     }
+//!     Intersection::Miss(_) => panic!("the beam misses"),
+//! }
+//! # Ok::<(), curve::Refusal>(())
+//! ```
+
+#![deny(unsafe_code)]
+#![warn(missing_docs)]
+
+#[allow(unsafe_code)]
+mod ffi;
+mod refusal;
+
+pub use refusal::{Refusal, SheetRefusal};
+
+/// The floats of a curve in a list: four control points, two widths, umin, umax.
+pub const CURVE_FLOATS: usize = 16;
+
+/// A list of this many curves is long enough for every call.
+pub const MOST_CURVES: usize = 1024;
+
+/// The beams that a sheet has at most.
+pub const MOST_BEAMS: usize = 64;
+
+/// A matrix, by rows.
+pub type Matrix4x4 = [f32; 16];
+
+/// The matrix that leaves every point where it is.
+pub const IDENTITY: Matrix4x4 = [
+    1.0, 0.0, 0.0, 0.0, //
+    0.0, 1.0, 0.0, 0.0, //
+    0.0, 0.0, 1.0, 0.0, //
+    0.0, 0.0, 0.0, 1.0,
+];
+
+/// How control points make a curve.
+#[derive(Clone, Copy, Debug, PartialEq, Eq, Hash)]
+pub enum Basis {
+    /// Segments that share their end points.
+    Bezier = 0,
+    /// Segments that share all points but one.
+    BSpline = 1,
+}
+
+/// What is swept along a curve. Only flat curves are laid.
+#[derive(Clone, Copy, Debug, PartialEq, Eq, Hash)]
+pub enum CurveType {
+    /// A strip that faces every ray.
+    Flat = 0,
+    /// A strip with normals of its own.
+    Ribbon = 1,
+    /// A tube.
+    Cylinder = 2,
+}
+
+/// What [`create_curve_shape`] takes beside the points.
+#[derive(Clone, Copy, Debug, PartialEq)]
+pub struct Params {
+    /// 2 or 3.
+    pub degree: u32,
+    /// How the points make a curve.
+    pub basis: Basis,
+    /// Flat.
+    pub curve_type: CurveType,
+    /// The width at the beginning of the whole curve.
+    pub width0: f32,
+    /// The width at its end; in between it goes in a straight line.
+    pub width1: f32,
+    /// Each segment yields 2 to the power of this many curves; at most 10.
+    pub splitdepth: u32,
+}
+
+/// A box along the axes.
+#[derive(Clone, Copy, Debug, PartialEq)]
+pub struct Bounds3 {
+    /// The lower corner.
+    pub p_min: [f32; 3],
+    /// The upper corner.
+    pub p_max: [f32; 3],
+}
+
+/// A ray, or beam.
+#[derive(Clone, Copy, Debug, PartialEq)]
+pub struct Ray {
+    /// The origin.
+    pub o: [f32; 3],
+    /// The direction, of any length but zero.
+    pub d: [f32; 3],
+    /// How far it goes, in lengths of the direction; infinity is allowed.
+    pub t_max: f32,
+    /// The time that a hit will carry.
+    pub time: f32,
+}
+
+/// A hit, in the object's frame.
+#[derive(Clone, Copy, Debug, PartialEq)]
+pub struct SurfaceInteraction {
+    /// The distance, in lengths of the ray's direction.
+    pub t_hit: f32,
+    /// Where along the curve, from 0 to 1.
+    pub u: f32,
+    /// Where across the curve, 0.5 in its middle.
+    pub v: f32,
+    /// The point.
+    pub p: [f32; 3],
+    /// The point's error, in each coordinate.
+    pub p_error: [f32; 3],
+    /// The ray's time.
+    pub time: f32,
+    /// The direction back along the ray, of length one.
+    pub wo: [f32; 3],
+    /// The normal, of length one.
+    pub n: [f32; 3],
+    /// The derivative along the curve.
+    pub dpdu: [f32; 3],
+    /// The derivative across the curve.
+    pub dpdv: [f32; 3],
+}
+
+/// Where a ray meets a curve, if it does, and at how many parts of the curve the call looked.
+#[derive(Clone, Copy, Debug, PartialEq)]
+pub enum Intersection {
+    /// The hit and the count.
+    Hit(SurfaceInteraction, u32),
+    /// The count.
+    Miss(u32),
+}
+
+/// What a belt sheet says. Its curves are in the list that was lent.
+#[derive(Clone, Debug, PartialEq)]
+pub struct Sheet {
+    /// How many curves were laid.
+    pub curves: u32,
+    /// Whether normals turn.
+    pub reverse: bool,
+    /// The beams, in the sheet's order.
+    pub beams: Vec<Ray>,
+}
+
+/// Lays curves into the list, [`CURVE_FLOATS`] floats each, and answers how many.
+///
+/// # Errors
+///
+/// [`Refusal`] 1 and 3 to 8, and then the list is as it was.
+pub fn create_curve_shape(
+    points: &[[f32; 3]],
+    params: &Params,
+    list: &mut [f32],
+) -> Result<u32, Refusal> {
+    let (number, curves) = ffi::create(points.as_flattened(), params, list);
+
+    accepted(number, curves)
+}
+
+/// The box of a curve.
+///
+/// # Errors
+///
+/// [`Refusal::Curve`].
+pub fn object_bound(curve: &[f32]) -> Result<Bounds3, Refusal> {
+    let (number, corners) = ffi::object_bound(curve);
+
+    accepted(number, Bounds3::from_floats(&corners))
+}
+
+/// The box of a curve's box under a matrix.
+///
+/// # Errors
+///
+/// [`Refusal::Curve`], [`Refusal::Matrix`], or [`Refusal::ZeroWeight`] of a corner.
+pub fn world_bound(curve: &[f32], object_to_world: &Matrix4x4) -> Result<Bounds3, Refusal> {
+    let (number, corners) = ffi::world_bound(curve, object_to_world);
+
+    accepted(number, Bounds3::from_floats(&corners))
+}
+
+/// The area of a curve.
+///
+/// # Errors
+///
+/// [`Refusal::Curve`].
+pub fn area(curve: &[f32]) -> Result<f32, Refusal> {
+    let (number, area) = ffi::area(curve);
+
+    accepted(number, area)
+}
+
+/// Where a ray meets a curve. `reverse` says whether normals turn.
+///
+/// # Errors
+///
+/// [`Refusal`] 9 to 16.
+pub fn intersect(
+    curve: &[f32],
+    object_to_world: &Matrix4x4,
+    world_to_object: &Matrix4x4,
+    reverse: bool,
+    ray: &Ray,
+) -> Result<Intersection, Refusal> {
+    let ray = ray.to_floats();
+    match ffi::intersect(curve, object_to_world, world_to_object, reverse, &ray) {
+        (0, record, looked) => {
+            let hit = SurfaceInteraction::from_floats(&record);
+
+            Ok(Intersection::Hit(hit, looked))
+        }
+        (1, _, looked) => Ok(Intersection::Miss(looked)),
+        (number, ..) => Err(refused(number)),
+    }
+}
+
+/// Reads a belt sheet and lays its curves into the list.
+///
+/// # Errors
+///
+/// [`Refusal`] 17 and 18, and those of [`create_curve_shape`]; and then the list is as it was.
+pub fn read_sheet(bytes: &[u8], list: &mut [f32]) -> Result<Sheet, SheetRefusal> {
+    let (number, beams, [curves, reverse, count, line]) = ffi::sheet(bytes, list);
+    let (rays, _) = beams.as_chunks();
+    let sheet = Sheet {
+        curves,
+        reverse: reverse == 1,
+        beams: rays
+            .iter()
+            .take(count as usize)
+            .map(Ray::from_floats)
+            .collect(),
+    };
+
+    accepted(number, sheet).map_err(|refusal| SheetRefusal { refusal, line })
+}
+
+fn accepted<T>(number: u32, value: T) -> Result<T, Refusal> {
+    match number {
+        0 => Ok(value),
+        _ => Err(refused(number)),
+    }
+}
+
+fn refused(number: u32) -> Refusal {
+    Refusal::from_number(number).expect("the library answers 0 to 18")
+}
+
+impl Bounds3 {
+    fn from_floats(&[x0, y0, z0, x1, y1, z1]: &[f32; 6]) -> Bounds3 {
+        Bounds3 {
+            p_min: [x0, y0, z0],
+            p_max: [x1, y1, z1],
+        }
+    }
+}
+
+impl Ray {
+    fn from_floats(&[ox, oy, oz, dx, dy, dz, t_max, time]: &[f32; 8]) -> Ray {
+        Ray {
+            o: [ox, oy, oz],
+            d: [dx, dy, dz],
+            t_max,
+            time,
+        }
+    }
+
+    fn to_floats(self) -> [f32; 8] {
+        let ([ox, oy, oz], [dx, dy, dz]) = (self.o, self.d);
+
+        [ox, oy, oz, dx, dy, dz, self.t_max, self.time]
+    }
+}
+
+impl SurfaceInteraction {
+    fn from_floats(record: &[f32; 22]) -> SurfaceInteraction {
+        let triple = |at: usize| [record[at], record[at + 1], record[at + 2]];
+
+        SurfaceInteraction {
+            t_hit: record[0],
+            u: record[1],
+            v: record[2],
+            p: triple(3),
+            p_error: triple(6),
+            time: record[9],
+            wo: triple(10),
+            n: triple(13),
+            dpdu: triple(16),
+            dpdv: triple(19),
+        }
+    }
+}

@@ -1,0 +1,52 @@
+//! 01's straight belt, its beam, and lists.
+
+use curve::{Basis, CurveType, Params, Ray, CURVE_FLOATS, MOST_CURVES};
+
+pub const CUBIC_BEZIER: Params = Params {
+    degree: 3,
+    basis: Basis::Bezier,
+    curve_type: CurveType::Flat,
+    width0: 1.0,
+    width1: 1.0,
+    splitdepth: 0,
+};
+
+/// From x = -3 to 3 at z = 4.
+pub const STRAIGHT: [[f32; 3]; 4] = [
+    [-3.0, 0.0, 4.0],
+    [-1.0, 0.0, 4.0],
+    [1.0, 0.0, 4.0],
+    [3.0, 0.0, 4.0],
+];
+
+/// Up from the origin.
+pub const UP: Ray = Ray {
+    o: [0.0; 3],
+    d: [0.0, 0.0, 1.0],
+    t_max: f32::INFINITY,
+    time: 0.0,
+};
+
+/// What stands in a list before a call.
+pub const MARK: f32 = -77.5;
+
+pub fn marked_list() -> Vec<f32> {
+    vec![MARK; CURVE_FLOATS * MOST_CURVES]
+}
+
+/// The one curve of four points.
+pub fn curve_of(points: &[[f32; 3]; 4], width: f32) -> [f32; CURVE_FLOATS] {
+    let params = Params {
+        width0: width,
+        width1: width,
+        ..CUBIC_BEZIER
+    };
+    let mut list = [MARK; CURVE_FLOATS];
+    assert_eq!(curve::create_curve_shape(points, &params, &mut list), Ok(1));
+
+    list
+}
+
+pub fn straight() -> [f32; CURVE_FLOATS] {
+    curve_of(&STRAIGHT, 1.0)
+}

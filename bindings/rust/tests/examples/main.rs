@@ -1,0 +1,8 @@
+//! 01's examples, and near ones, through the wrapper.
+
+mod beam;
+mod boxes;
+mod common;
+mod laying;
+mod refusal;
+mod sheet;
