@@ -116,6 +116,10 @@ pub const KINDS: &[Kind] = &[
     ),
 ];
 
+pub fn find(name: &str) -> Option<&'static Kind> {
+    KINDS.iter().find(|kind| kind.name == name)
+}
+
 fn sqrt(line: &mut Reader, answer: &mut Words) {
     put(answer, &[line.float().sqrt()]);
 }
@@ -219,15 +223,7 @@ fn world_bound(line: &mut Reader, answer: &mut Words) {
 }
 
 fn create_curve_shape(line: &mut Reader, answer: &mut Words) {
-    let params = ShapeParams {
-        degree: line.word(),
-        basis: line.word(),
-        ty: line.word(),
-        widths: line.floats(),
-        split: line.word(),
-        list_len: line.word(),
-        floats: line.counted_floats(),
-    };
+    let params = shape_params(line);
     put_reply(answer, laid(&params), |words, pieces| {
         let mut list = Words::new();
         put(&mut list, pieces.as_flattened());
@@ -237,6 +233,18 @@ fn create_curve_shape(line: &mut Reader, answer: &mut Words) {
         let hash = hash(&list);
         words.extend([pieces.len() as u32, (hash >> 32) as u32, hash as u32]);
     });
+}
+
+pub fn shape_params(line: &mut Reader) -> ShapeParams {
+    ShapeParams {
+        degree: line.word(),
+        basis: line.word(),
+        ty: line.word(),
+        widths: line.floats(),
+        split: line.word(),
+        list_len: line.word(),
+        floats: line.counted_floats(),
+    }
 }
 
 fn intersect(line: &mut Reader, answer: &mut Words) {

@@ -1,26 +1,13 @@
 //! Answers of the supplied Rust on seeded inputs, one line each. See README.md.
 
-mod beam;
-mod beam_inputs;
-mod curve_inputs;
-mod flat;
-mod inputs;
-mod kinds;
-mod limits;
-mod panics;
-mod rng;
-mod shares;
-mod sheet;
-mod sheet_inputs;
-mod words;
-
-use kinds::{Kind, KINDS};
-use rng::Rng;
+use oracle::kinds::{self, Kind, KINDS};
+use oracle::rng::Rng;
+use oracle::words::{append, Reader, Words};
+use oracle::{panics, shares, sheet, sheet_inputs};
 use std::io::{Read, Write};
 use std::panic::{catch_unwind, set_hook};
 use std::path::Path;
 use std::process::exit;
-use words::{append, Reader, Words};
 
 fn main() {
     set_hook(Box::new(panics::on_panic));
@@ -32,7 +19,7 @@ fn main() {
         ["sheets", seed, n, dir] => sheets(number(seed), number(n), Path::new(dir)),
         ["sheet"] => answer_sheet(),
         ["sheet_shares", seed, n] => shares::print_sheets(number(seed), number(n)),
-        [name, seed, n] => match KINDS.iter().find(|kind| kind.name == name) {
+        [name, seed, n] => match kinds::find(name) {
             Some(kind) => lines(kind, number(seed), number(n)),
             None => wrong_usage(),
         },

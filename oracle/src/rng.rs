@@ -126,6 +126,11 @@ impl Rng {
         self.signed(x)
     }
 
+    /// Quiet or not, of either sign.
+    pub fn nan(&mut self) -> f32 {
+        f32::from_bits(self.next() as u32 | 0x7f80_0001)
+    }
+
     pub fn special(&mut self) -> f32 {
         let x = match self.below(10) {
             0 | 1 | 2 => f32::NAN,

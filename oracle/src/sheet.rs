@@ -16,8 +16,8 @@ pub struct Sheet {
 
 /// 01's number, and the line, which is 0 with every number but 17.
 pub struct Refused {
-    number: u32,
-    line: usize,
+    pub number: u32,
+    pub line: usize,
 }
 
 pub const MOST_BYTES: usize = 65_536;
@@ -35,8 +35,7 @@ pub fn output(sheet: &[u8]) -> String {
 }
 
 fn answered(sheet: &[u8]) -> Result<String, Refused> {
-    let sheet = read(sheet)?;
-    let pieces = kinds::laid(&sheet.belt).map_err(|number| Refused { number, line: 0 })?;
+    let (sheet, pieces) = laid(sheet, LIST_LEN)?;
     let mut text = format!("pieces={}\n", pieces.len());
     for (b, ray) in sheet.beams.iter().enumerate() {
         for (p, piece) in pieces.iter().enumerate() {
@@ -46,6 +45,14 @@ fn answered(sheet: &[u8]) -> Result<String, Refused> {
     }
 
     Ok(text)
+}
+
+/// The sheet, and the pieces that the Rust lays of it into a list of that length.
+pub fn laid(sheet: &[u8], list_len: u32) -> Result<(Sheet, Vec<[f32; 16]>), Refused> {
+    let sheet = read(sheet, list_len)?;
+    let pieces = kinds::laid(&sheet.belt).map_err(|number| Refused { number, line: 0 })?;
+
+    Ok((sheet, pieces))
 }
 
 fn answer(piece: &[f32; 16], reverse: bool, ray: &[f32; 8]) -> String {
@@ -76,7 +83,7 @@ fn float(x: f32) -> String {
     text(&word)
 }
 
-pub fn read(sheet: &[u8]) -> Result<Sheet, Refused> {
+fn read(sheet: &[u8], list_len: u32) -> Result<Sheet, Refused> {
     if sheet.len() > MOST_BYTES {
         return Err(Refused {
             number: 18,
@@ -108,7 +115,7 @@ pub fn read(sheet: &[u8]) -> Result<Sheet, Refused> {
             ty,
             widths: [width0, width1],
             split,
-            list_len: LIST_LEN,
+            list_len,
             floats: points.concat(),
         },
         reverse: reverse == 1,

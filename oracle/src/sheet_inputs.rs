@@ -296,7 +296,7 @@ fn spoil(rng: &mut Rng, ray: &mut [f32; 8]) {
     ray[rng.below(8) as usize] = match rng.below(8) {
         0 => limit,
         1 | 2 => neighbour(limit, 1),
-        3 => any_nan(rng),
+        3 => rng.nan(),
         4 => rng.any(),
         _ => rng.special(),
     };
@@ -304,11 +304,6 @@ fn spoil(rng: &mut Rng, ray: &mut [f32; 8]) {
         let ends = [-pow2(-149), -1.0, f32::NEG_INFINITY, f32::NAN, -0.0];
         ray[6] = rng.pick(&ends);
     }
-}
-
-/// Quiet or not, of either sign: the grammar lets any pattern through.
-fn any_nan(rng: &mut Rng) -> f32 {
-    f32::from_bits(rng.next() as u32 | 0x7f80_0001)
 }
 
 // Sheets that laying refuses.
@@ -353,7 +348,7 @@ fn misfits(rng: &mut Rng, sheet: &mut Sheet) {
         }
         6 => {
             let at = rng.below(belt.floats.len() as u32) as usize;
-            belt.floats[at] = any_nan(rng);
+            belt.floats[at] = rng.nan();
         }
         _ => curve_inputs::spoil(rng, belt),
     }

@@ -1,0 +1,467 @@
+//! A case of each operation: its inputs, what the Rust says to them, and what the library says. The inputs
+//! are those of the oracle's lines and sheets, and now and then what only a call can be given: a piece that
+//! is not sixteen floats, a reverse flag above 1, another NaN, another list.
+
+use crate::answer::{Answer, Output};
+use crate::calls;
+use crate::tally::Reply;
+use oracle::kinds::{self, Kind};
+use oracle::limits::ShapeParams;
+use oracle::rng::Rng;
+use oracle::sheet::{self, Refused, LIST_LEN};
+use oracle::sheet_inputs;
+use oracle::words::{put, text, Reader, Words};
+
+pub trait Case {
+    const NAME: &'static str;
+    /// Whose stream of numbers its inputs come from.
+    const KIND: &'static str = Self::NAME;
+    /// Whether it answers a box, where -0 equals 0.
+    const IN_BOXES: bool = false;
+
+    /// The second stream is for what only a call can be given: the first stays that of the lines.
+    fn new(rng: &mut Rng, call: &mut Rng) -> Self;
+
+    /// Each input by its name.
+    fn inputs(&self) -> Vec<(&'static str, String)>;
+
+    fn rust(&self) -> Answer;
+
+    fn library(&self) -> Answer;
+
+    fn reply(number: u32) -> Reply {
+        match number {
+            0 => Reply::Accepted,
+            _ => Reply::Refused(number),
+        }
+    }
+}
+
+/// 01's refusal of a piece off limits, which any number of floats but sixteen is.
+const OFF_LIMITS: u32 = 9;
+
+/// A NaN in a line.
+const NAN: u32 = 0x7fc0_0000;
+
+fn floats_text(floats: &[f32]) -> String {
+    let words: Words = floats.iter().map(|x| x.to_bits()).collect();
+
+    text(&words)
+}
+
+fn kind_of<C: Case>() -> &'static Kind {
+    kinds::find(C::KIND).expect("the name of a kind")
+}
+
+/// The inputs of a line, half of its NaNs with other bits.
+fn line(kind: &Kind, rng: &mut Rng, call: &mut Rng) -> Words {
+    let mut words = Words::new();
+    (kind.inputs)(rng, &mut words);
+    for word in words.iter_mut().filter(|word| **word == NAN) {
+        if call.one_in(2) {
+            *word = call.nan().to_bits();
+        }
+    }
+
+    words
+}
+
+pub struct Create(ShapeParams);
+
+impl Case for Create {
+    const NAME: &'static str = "create";
+    const KIND: &'static str = "create_curve_shape";
+
+    fn new(rng: &mut Rng, call: &mut Rng) -> Create {
+        let line = line(kind_of::<Self>(), rng, call);
+
+        Create(kinds::shape_params(&mut Reader(&line)))
+    }
+
+    fn inputs(&self) -> Vec<(&'static str, String)> {
+        let params = &self.0;
+
+        vec![
+            ("degree", params.degree.to_string()),
+            ("basis", params.basis.to_string()),
+            ("type", params.ty.to_string()),
+            ("widths", floats_text(&params.widths)),
+            ("splitdepth", params.split.to_string()),
+            ("list_len", params.list_len.to_string()),
+            ("points", floats_text(&params.floats)),
+        ]
+    }
+
+    fn rust(&self) -> Answer {
+        let [mut list, mut pieces] = self.outputs();
+        let number = match kinds::laid(&self.0) {
+            Ok(laid) => {
+                write_pieces(&mut list, &laid);
+                pieces.write(0, &[laid.len() as u32]);
+                0
+            }
+            Err(number) => number,
+        };
+
+        Answer {
+            number,
+            outputs: vec![list, pieces],
+        }
+    }
+
+    fn library(&self) -> Answer {
+        let [mut list, mut pieces] = self.outputs();
+
+        Answer {
+            number: calls::create(&self.0, &mut list, &mut pieces),
+            outputs: vec![list, pieces],
+        }
+    }
+}
+
+impl Create {
+    fn outputs(&self) -> [Output; 2] {
+        let len = self.0.list_len as usize;
+
+        [Output::new("list", len), Output::new("pieces", 1)]
+    }
+}
+
+fn write_pieces(list: &mut Output, pieces: &[[f32; 16]]) {
+    let mut words = Words::new();
+    put(&mut words, pieces.as_flattened());
+    list.write(0, &words);
+}
+
+/// The line of a kind that takes a piece first, and how many floats are handed over as the piece.
+struct PieceLine {
+    kind: &'static Kind,
+    words: Words,
+    len: usize,
+}
+
+impl PieceLine {
+    fn new<C: Case>(rng: &mut Rng, call: &mut Rng) -> PieceLine {
+        let kind = kind_of::<C>();
+        let words = line(kind, rng, call);
+        let len = if call.one_in(16) {
+            call.pick(&[0, 15, 17, 32])
+        } else {
+            16
+        };
+
+        PieceLine { kind, words, len }
+    }
+
+    /// Of more than sixteen floats the last repeat the first.
+    fn piece(&self) -> Vec<f32> {
+        let again = self.words[..16].iter().cycle().take(self.len);
+
+        again.map(|word| f32::from_bits(*word)).collect()
+    }
+
+    fn behind_piece(&self) -> Reader<'_> {
+        Reader(&self.words[16..])
+    }
+
+    fn piece_input(&self) -> (&'static str, String) {
+        ("piece", floats_text(&self.piece()))
+    }
+
+    /// The Rust's answer as it stands in a line: the number, then what goes with it.
+    fn answer(&self) -> Words {
+        if self.len != 16 {
+            return vec![OFF_LIMITS];
+        }
+        let mut answer = Words::new();
+        (self.kind.answer)(&mut Reader(&self.words), &mut answer);
+
+        answer
+    }
+
+    /// The same, of a kind with one output.
+    fn answer_in(&self, mut out: Output) -> Answer {
+        let answer = self.answer();
+        out.write(0, &answer[1..]);
+
+        Answer {
+            number: answer[0],
+            outputs: vec![out],
+        }
+    }
+}
+
+fn new_box() -> Output {
+    Output::new("out", 6)
+}
+
+pub struct ObjectBound(PieceLine);
+
+impl Case for ObjectBound {
+    const NAME: &'static str = "object_bound";
+    const IN_BOXES: bool = true;
+
+    fn new(rng: &mut Rng, call: &mut Rng) -> ObjectBound {
+        ObjectBound(PieceLine::new::<Self>(rng, call))
+    }
+
+    fn inputs(&self) -> Vec<(&'static str, String)> {
+        vec![self.0.piece_input()]
+    }
+
+    fn rust(&self) -> Answer {
+        self.0.answer_in(new_box())
+    }
+
+    fn library(&self) -> Answer {
+        let mut out = new_box();
+
+        Answer {
+            number: calls::object_bound(&self.0.piece(), &mut out),
+            outputs: vec![out],
+        }
+    }
+}
+
+pub struct WorldBound(PieceLine);
+
+impl Case for WorldBound {
+    const NAME: &'static str = "world_bound";
+    const IN_BOXES: bool = true;
+
+    fn new(rng: &mut Rng, call: &mut Rng) -> WorldBound {
+        WorldBound(PieceLine::new::<Self>(rng, call))
+    }
+
+    fn inputs(&self) -> Vec<(&'static str, String)> {
+        vec![
+            self.0.piece_input(),
+            ("object_to_world", floats_text(&self.object_to_world())),
+        ]
+    }
+
+    fn rust(&self) -> Answer {
+        self.0.answer_in(new_box())
+    }
+
+    fn library(&self) -> Answer {
+        let mut out = new_box();
+
+        Answer {
+            number: calls::world_bound(&self.0.piece(), &self.object_to_world(), &mut out),
+            outputs: vec![out],
+        }
+    }
+}
+
+impl WorldBound {
+    fn object_to_world(&self) -> [f32; 16] {
+        self.0.behind_piece().floats()
+    }
+}
+
+pub struct Area(PieceLine);
+
+impl Case for Area {
+    const NAME: &'static str = "area";
+
+    fn new(rng: &mut Rng, call: &mut Rng) -> Area {
+        Area(PieceLine::new::<Self>(rng, call))
+    }
+
+    fn inputs(&self) -> Vec<(&'static str, String)> {
+        vec![self.0.piece_input()]
+    }
+
+    fn rust(&self) -> Answer {
+        self.0.answer_in(Output::new("out", 1))
+    }
+
+    fn library(&self) -> Answer {
+        let mut out = Output::new("out", 1);
+
+        Answer {
+            number: calls::area(&self.0.piece(), &mut out),
+            outputs: vec![out],
+        }
+    }
+}
+
+pub struct Intersect {
+    line: PieceLine,
+    object_to_world: [f32; 16],
+    world_to_object: [f32; 16],
+    reverse: u32,
+    ray: [f32; 8],
+}
+
+impl Case for Intersect {
+    const NAME: &'static str = "intersect";
+
+    fn new(rng: &mut Rng, call: &mut Rng) -> Intersect {
+        let line = PieceLine::new::<Self>(rng, call);
+        let mut rest = line.behind_piece();
+        let object_to_world = rest.floats();
+        let world_to_object = rest.floats();
+        let reverse = match rest.word() {
+            0 => 0,
+            _ => call.pick(&[1, 1, 2, 3, 0x100, 1 << 31, u32::MAX]),
+        };
+        let ray = rest.floats();
+
+        Intersect {
+            line,
+            object_to_world,
+            world_to_object,
+            reverse,
+            ray,
+        }
+    }
+
+    fn inputs(&self) -> Vec<(&'static str, String)> {
+        vec![
+            self.line.piece_input(),
+            ("object_to_world", floats_text(&self.object_to_world)),
+            ("world_to_object", floats_text(&self.world_to_object)),
+            ("reverse", self.reverse.to_string()),
+            ("ray", floats_text(&self.ray)),
+        ]
+    }
+
+    /// With a hit go the count and the record, with a miss the count.
+    fn rust(&self) -> Answer {
+        let [mut record, mut looked] = Intersect::outputs();
+        let answer = self.line.answer();
+        if let [_, count, hit @ ..] = &answer[..] {
+            looked.write(0, &[*count]);
+            record.write(0, hit);
+        }
+
+        Answer {
+            number: answer[0],
+            outputs: vec![record, looked],
+        }
+    }
+
+    fn library(&self) -> Answer {
+        let [mut record, mut looked] = Intersect::outputs();
+
+        Answer {
+            number: calls::intersect(
+                &self.line.piece(),
+                [&self.object_to_world, &self.world_to_object],
+                self.reverse,
+                &self.ray,
+                &mut record,
+                &mut looked,
+            ),
+            outputs: vec![record, looked],
+        }
+    }
+
+    fn reply(number: u32) -> Reply {
+        match number {
+            0 => Reply::Hit,
+            1 => Reply::Miss,
+            _ => Reply::Refused(number),
+        }
+    }
+}
+
+impl Intersect {
+    fn outputs() -> [Output; 2] {
+        [Output::new("record", 22), Output::new("looked", 1)]
+    }
+}
+
+pub struct Sheet {
+    bytes: Vec<u8>,
+    list_len: u32,
+}
+
+impl Case for Sheet {
+    const NAME: &'static str = "sheet";
+    const KIND: &'static str = "sheets";
+
+    fn new(rng: &mut Rng, call: &mut Rng) -> Sheet {
+        let bytes = sheet_inputs::sheet(rng).bytes;
+        let list_len = if call.one_in(8) {
+            list_len(call, &bytes)
+        } else {
+            LIST_LEN
+        };
+
+        Sheet { bytes, list_len }
+    }
+
+    fn inputs(&self) -> Vec<(&'static str, String)> {
+        let bytes = self.bytes.iter().map(|byte| format!("{byte:02x}"));
+
+        vec![
+            ("bytes", bytes.collect()),
+            ("list_len", self.list_len.to_string()),
+        ]
+    }
+
+    fn rust(&self) -> Answer {
+        let [mut list, mut beams, mut out] = self.outputs();
+        let number = match sheet::laid(&self.bytes, self.list_len) {
+            Ok((sheet, pieces)) => {
+                write_pieces(&mut list, &pieces);
+                let mut words = Words::new();
+                put(&mut words, sheet.beams.as_flattened());
+                words.resize(512, 0);
+                beams.write(0, &words);
+                let counts = [pieces.len(), sheet.reverse as usize, sheet.beams.len(), 0];
+                out.write(0, &counts.map(|count| count as u32));
+                0
+            }
+            Err(Refused { number, line }) => {
+                out.write(3, &[line as u32]);
+                number
+            }
+        };
+
+        Answer {
+            number,
+            outputs: vec![list, beams, out],
+        }
+    }
+
+    fn library(&self) -> Answer {
+        let [mut list, mut beams, mut out] = self.outputs();
+
+        Answer {
+            number: calls::sheet(&self.bytes, &mut list, &mut beams, &mut out),
+            outputs: vec![list, beams, out],
+        }
+    }
+}
+
+impl Sheet {
+    fn outputs(&self) -> [Output; 3] {
+        [
+            Output::new("list", self.list_len as usize),
+            Output::new("beams", 512),
+            Output::new("out", 4),
+        ]
+    }
+}
+
+/// Too short for the sheet's pieces, just long enough, or longer than any sheet's.
+fn list_len(call: &mut Rng, bytes: &[u8]) -> u32 {
+    let needed = match sheet::laid(bytes, LIST_LEN) {
+        Ok((_, pieces)) => 16 * pieces.len() as u32,
+        Err(_) => 0,
+    };
+
+    call.pick(&[
+        0,
+        needed / 2,
+        needed.saturating_sub(16),
+        needed.saturating_sub(1),
+        needed,
+        needed + 1,
+        LIST_LEN + 100,
+    ])
+}

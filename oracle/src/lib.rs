@@ -1,0 +1,15 @@
+//! Answers of the supplied Rust on seeded inputs. See README.md.
+
+pub mod beam;
+pub mod beam_inputs;
+pub mod curve_inputs;
+pub mod flat;
+pub mod inputs;
+pub mod kinds;
+pub mod limits;
+pub mod panics;
+pub mod rng;
+pub mod shares;
+pub mod sheet;
+pub mod sheet_inputs;
+pub mod words;
