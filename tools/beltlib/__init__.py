@@ -1,0 +1,1 @@
+"""Belt sheets, beltbeam's reports and plans of both."""

@@ -1,0 +1,27 @@
+"""Why a sheet or a beam is refused, by the number that beltbeam prints."""
+
+REASONS = {
+    1: "the degree is not 2 or 3",
+    2: "the basis is neither Bezier nor B-spline",
+    3: "the points do not make whole segments",
+    4: "the type is not flat",
+    5: "the split depth is over 10",
+    6: "there are over 256 points or over 1,024 pieces",
+    7: "a coordinate is not within 1,048,576 of zero, or a width is outside 1/1024 to 1,024",
+    8: "the list is too short for the pieces",
+    9: "the piece is off limits",
+    10: "a matrix entry is not within 1,048,576 of zero",
+    11: "an origin, direction or time is not within 1,048,576 of zero, or t_max is negative or NaN",
+    12: "the weight of the origin or of a control point is zero",
+    13: "a direction has length zero where the beam's frame is made",
+    14: "the curve has no direction along it at the hit",
+    15: "the curve has no crosswise direction at the hit",
+    16: "the normal or the way back has length zero at the hit",
+    17: "a line of the sheet is wrong",
+    18: "the sheet has over 65,536 bytes",
+}
+
+
+def refused(number: int) -> str:
+    """A refusal and its reason."""
+    return f"refused {number}: {REASONS[number]}"

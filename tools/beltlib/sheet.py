@@ -1,0 +1,215 @@
+"""The belt sheet: read in decimal or in hexadecimal, written in hexadecimal."""
+
+import re
+from dataclasses import dataclass
+from typing import Callable
+
+from beltlib.errors import BadInput, quoted
+from beltlib.floats import bits_of_decimal, bits_of_hexadecimal
+from beltlib.refusals import refused
+from beltlib.words import counted, either
+
+MOST_BYTES = 65536
+MOST_BEAMS = 64
+
+# Which keys may stand behind a key; behind nothing stands the degree.
+NEXT = {
+    "": ("degree",),
+    "degree": ("basis",),
+    "basis": ("type",),
+    "type": ("width0",),
+    "width0": ("width1",),
+    "width1": ("splitdepth",),
+    "splitdepth": ("reverse",),
+    "reverse": ("point",),
+    "point": ("point", "beam"),
+    "beam": ("beam",),
+}
+KEYS = tuple(NEXT)[1:]
+
+WORDS = {
+    "basis": ("bezier", "bspline"),
+    "type": ("flat", "ribbon", "cylinder"),
+    "reverse": ("0", "1"),
+}
+FLOATS = {
+    "width0": (1, "the width at the start"),
+    "width1": (1, "the width at the end"),
+    "point": (3, "x, y, z"),
+    "beam": (8, "origin, direction, t_max, time"),
+}
+
+Floats = tuple[int, ...]
+ReadFloat = Callable[[str], int]
+
+
+@dataclass(frozen=True)
+class Sheet:
+    """What a sheet says; floats are the bits of an f32."""
+
+    degree: int
+    basis: str
+    type: str
+    width0: int
+    width1: int
+    splitdepth: int
+    reverse: str
+    points: tuple[Floats, ...]
+    beams: tuple[Floats, ...]
+
+    def text(self) -> str:
+        """The sheet as beltbeam reads it."""
+        head = [
+            f"degree={self.degree}",
+            f"basis={self.basis}",
+            f"type={self.type}",
+            f"width0={self.width0:08x}",
+            f"width1={self.width1:08x}",
+            f"splitdepth={self.splitdepth}",
+            f"reverse={self.reverse}",
+        ]
+        points = [f"point={hexadecimal(point)}" for point in self.points]
+        beams = [f"beam={hexadecimal(beam)}" for beam in self.beams]
+        return "".join(line + "\n" for line in head + points + beams)
+
+
+@dataclass(frozen=True)
+class Line:
+    """A line that says something, by its number from 1."""
+
+    number: int
+    key: str
+    value: str
+
+
+def hexadecimal(floats: Floats) -> str:
+    """Floats as a line of the sheet has them."""
+    return ",".join(f"{bits:08x}" for bits in floats)
+
+
+def read_decimal(name: str, text: str) -> Sheet:
+    """The sheet that a text in plain decimal numbers says."""
+    sheet = read_lines(name, decimal_lines(name, text), bits_of_decimal)
+    size = len(sheet.text())
+    if size > MOST_BYTES:
+        raise BadInput(f"{refused(18)}; this one would have {size:,}").at(name)
+    return sheet
+
+
+def read_sheet(name: str, text: str) -> Sheet:
+    """The sheet that beltbeam reads in a text."""
+    if len(text.encode()) > MOST_BYTES:
+        raise BadInput(refused(18)).at(name)
+    return read_lines(name, strict_lines(name, text), bits_of_hexadecimal)
+
+
+def decimal_lines(name: str, text: str) -> list[Line]:
+    """The lines without comments, blanks and empty lines."""
+    lines = []
+    for number, raw in enumerate(text.removeprefix("\ufeff").split("\n"), start=1):
+        content = raw.partition("#")[0].strip()
+        if content:
+            key, value = key_and_value(name, number, content)
+            lines.append(Line(number, key.rstrip(), value.lstrip()))
+    return lines
+
+
+def strict_lines(name: str, text: str) -> list[Line]:
+    """The lines as they are, each ended by LF."""
+    *ended, rest = text.split("\n")
+    if rest:
+        raise BadInput("the last line is not ended by a line feed").at(f"{name}:{len(ended) + 1}")
+    return [
+        Line(number, *key_and_value(name, number, raw)) for number, raw in enumerate(ended, start=1)
+    ]
+
+
+def key_and_value(name: str, number: int, line: str) -> tuple[str, str]:
+    """What stands before and behind the first equals sign."""
+    key, equals, value = line.partition("=")
+    if not equals:
+        raise BadInput(f"expected key=value, found {quoted(line)}").at(f"{name}:{number}")
+    return key, value
+
+
+def read_lines(name: str, lines: list[Line], read_float: ReadFloat) -> Sheet:
+    """The sheet that lines of either form say."""
+    found: dict[str, list] = {key: [] for key in KEYS}
+    previous = ""
+    for line in lines:
+        try:
+            check_place(line.key, previous, found)
+            found[line.key].append(read_value(line.key, line.value, read_float))
+        except BadInput as wrong:
+            raise wrong.at(f"{name}:{line.number}") from None
+        previous = line.key
+    if "beam" not in NEXT[previous]:
+        end = lines[-1].number + 1 if lines else 1
+        raise BadInput(f"the sheet ends here, expected {NEXT[previous][0]}=").at(f"{name}:{end}")
+    head = (found[key][0] for key in KEYS if key not in ("point", "beam"))
+    return Sheet(*head, points=tuple(found["point"]), beams=tuple(found["beam"]))
+
+
+def check_place(key: str, previous: str, found: dict[str, list]) -> None:
+    """Refuses a key that may not stand behind the one before."""
+    due = NEXT[previous]
+    expected = " or ".join(f"{one}=" for one in due)
+    if key not in KEYS:
+        raise BadInput(f"unknown key {quoted(key)}, expected {expected}")
+    if key == "beam" and len(found["beam"]) == MOST_BEAMS:
+        raise BadInput(f"one beam too many, expected at most {MOST_BEAMS}")
+    if key in due:
+        return
+    if key == "point" and previous == "beam":
+        raise BadInput("point= stands behind a beam, expected all points before the beams")
+    if found[key]:
+        raise BadInput(f"{key}= stands a second time, expected {expected}")
+    raise BadInput(f"expected {expected} before {key}=")
+
+
+def read_value(key: str, text: str, read_float: ReadFloat) -> object:
+    """What stands behind a key."""
+    try:
+        if key in FLOATS:
+            return read_floats(*FLOATS[key], text, read_float)
+        if key in WORDS:
+            return read_word(WORDS[key], text)
+        return read_whole(text)
+    except BadInput as wrong:
+        raise wrong.at(f"{key}=") from None
+
+
+def read_whole(text: str) -> int:
+    """A number of one or two digits."""
+    if not re.fullmatch("[0-9]{1,2}", text):
+        raise BadInput(f"expected one or two decimal digits, found {quoted(text)}")
+    return int(text)
+
+
+def read_word(words: tuple[str, ...], text: str) -> str:
+    """One of a few words."""
+    if text not in words:
+        raise BadInput(f"expected {either(words)}, found {quoted(text)}")
+    return text
+
+
+def read_floats(count: int, meaning: str, text: str, read_float: ReadFloat) -> int | Floats:
+    """The floats of a width, a point or a beam."""
+    parts = text.split(",")
+    if len(parts) != count:
+        raise BadInput(f"expected {counted(count, 'number')} ({meaning}), found {len(parts)}")
+    floats = tuple(read_float(part) for part in parts)
+    return floats if count > 1 else floats[0]
+
+
+def expected_on(line: int) -> str:
+    """What beltbeam expects on a line of a sheet that it refuses by 17."""
+    key = KEYS[line - 1] if line < len(KEYS) else ""
+    if key in FLOATS:
+        count = counted(FLOATS[key][0], "number")
+        return f"{key}= and {count} of eight lower-case hexadecimal digits"
+    if key in WORDS:
+        return f"{key}= and {either(WORDS[key])}"
+    if key:
+        return f"{key}= and one or two decimal digits"
+    return f"a point, one of at most {MOST_BEAMS} beams, or the end"
