@@ -55,6 +55,9 @@ normalized v = divided v (lengthOf v)
 unfoldable pub minorOf : Float → Float → Float → Float → Float
 minorOf a b c d = narrowOf (sub binary64 (mul binary64 a b) (mul binary64 c d))
 
+abbrev pub vectorOf : Float → Float → Float → Vector3f
+vectorOf x y z = record { x = x; y = y; z = z }
+
 unfoldable pub crossOf : Vector3f → Vector3f → Vector3f
 crossOf v w =
     record {

@@ -1,6 +1,6 @@
 // Vectors: core/geometry/vector.rs.
 ghost use mathlib.Core.Path.{_≡_};
-ghost use Rattle.geometry.specs.Vector.{negated2, dot2, lengthSquared2, negated, scaled, divided, dotOf, absolute, lengthSquared, lengthOf, normalized, minorOf, crossOf, axesOf, coordinateSystem};
+ghost use Rattle.geometry.specs.Vector.{negated2, dot2, lengthSquared2, negated, scaled, divided, dotOf, absolute, lengthSquared, lengthOf, normalized, minorOf, vectorOf, crossOf, axesOf, coordinateSystem};
 
 pub struct Vector2f {
     pub x: f32,
@@ -116,11 +116,19 @@ impl Vector3f {
     pub fn cross(self, v: Vector3f) -> Vector3f
         ensures { λ r. ⌜ r ≡ crossOf self v ⌝ }
     {
-        Vector3f {
-            x: minor(self.y, v.z, self.z, v.y),
-            y: minor(self.z, v.x, self.x, v.z),
-            z: minor(self.x, v.y, self.y, v.x),
-        }
+        cross_parts(self.x, self.y, self.z, v.x, v.y, v.z)
+    }
+}
+
+// The cross product of two vectors by their parts, which stay in registers: a vector that is handed over in memory
+// and read whole right after it was written by parts costs more than the products.
+fn cross_parts(ax: f32, ay: f32, az: f32, bx: f32, by: f32, bz: f32) -> Vector3f
+    ensures { λ r. ⌜ r ≡ crossOf (vectorOf ax ay az) (vectorOf bx by bz) ⌝ }
+{
+    Vector3f {
+        x: minor(ay, bz, az, by),
+        y: minor(az, bx, ax, bz),
+        z: minor(ax, by, ay, bx),
     }
 }
 
@@ -144,7 +152,10 @@ fn axes(v1: Vector3f, v2: Divided) -> CoordinateSystem
     ensures { λ r. ⌜ r ≡ axesOf v1 v2 ⌝ }
 {
     match v2 {
-        Divided::Vector(v2) => CoordinateSystem::Axes(v2, v1.cross(v2)),
+        Divided::Vector(v2) => {
+            let v3 = cross_parts(v1.x, v1.y, v1.z, v2.x, v2.y, v2.z);
+            CoordinateSystem::Axes(v2, v3)
+        }
         Divided::ByZero => CoordinateSystem::ZeroLength,
     }
 }

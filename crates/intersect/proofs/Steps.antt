@@ -19,7 +19,7 @@ use Rattle.segment.specs.declared.leaf.Leaf.{Leaf}
 use Rattle.segment.specs.declared.leaf.Leaf.the-variants.{Passes, Fails, NoFrame}
 use Rattle.intersect.specs.declared.walk.Walked.{Walked}
 use Rattle.intersect.specs.declared.walk.Walked.the-variants.{Hit, Miss, Refused}
-use Rattle.segment.specs.Halves.{lowHalf, highHalf, halvesOf, isThrown}
+use Rattle.segment.specs.Halves.{lowHalf, highHalf, halvesOf, halfWidth, isThrownBy, isThrown}
 use Rattle.segment.specs.Fixed.{zmaxFrom, contextFrom}
 use Rattle.segment.specs.Leaf.{leafOf}
 use Rattle.intersect.specs.Walk.{sizeOf, entered, settled, isOver, walkIn, halfIn}
@@ -59,10 +59,10 @@ room-high c p d r e q f h u v =
 
 -- ---- the returns
 
-module _ (l : List Float) (flip : Bool) (s : Segment) (d : ℕ) (r : Walked) (k : Curve) (z : Float) (b : Bool)
-    (curve : k ≡ curveFrom l) (limit : z ≡ zmaxFrom l) (tested : b ≡ isThrown k z s) where
+module _ (l : List Float) (flip : Bool) (s : Segment) (d : ℕ) (r : Walked) (k : Curve) (w z : Float) (b : Bool)
+    (curve : k ≡ curveFrom l) (wide : w ≡ halfWidth k (s .u0) (s .u1)) (limit : z ≡ zmaxFrom l) (tested : b ≡ isThrownBy w z s) where
   is-tested : isThrown (contextFrom l flip .curve) (contextFrom l flip .zmax) s ≡ b
-  unfolding contextFrom
+  unfolding contextFrom isThrown
   is-tested = cc
 
   pub half-out : b ≡ true → r ≡ halfIn (contextFrom l flip) d s r
@@ -71,7 +71,7 @@ module _ (l : List Float) (flip : Bool) (s : Segment) (d : ℕ) (r : Walked) (k 
 
   pub half-in : b ≡ false → (q : Walked) → q ≡ walkIn (contextFrom l flip) d s r → q ≡ halfIn (contextFrom l flip) d s r
   unfolding halfIn walkIn
-  half-in t q w = rw (is-tested, t) w
+  half-in t q e = rw (is-tested, t) e
 
 pub walk-ends : (l : List Float) (flip : Bool) (s : Segment) (d : ℕ) (r e q : Walked) (c : Context) (x : Leaf) → d ≡ 0 → e ≡ entered r → c ≡ contextFrom l flip → x ≡ leafOf c s → q ≡ settled x e
     → q ≡ walkIn (contextFrom l flip) d s r

@@ -10,6 +10,7 @@ use segment::Leaf;
 use segment::Segment;
 use segment::context_from;
 use segment::curve_in;
+use segment::half_width;
 use segment::halve;
 use segment::is_thrown;
 use segment::run_leaf;
@@ -90,7 +91,8 @@ fn half_step(fixed: &[f32; FIXED], flip: bool, s: Segment, depth: u32, so_far: W
     requires { ⌜ sizeOf «so_far» + 2 ^ suc depth ≤ 2 ^ 32 ⌝ }
     ensures { λ r. ⌜ r ≡ halfIn (contextFrom (now (fixed .entry)) flip) depth s «so_far» ⌝ }
 {
-    if is_thrown(curve_in(fixed), zmax_in(fixed), s) {
+    let w = half_width(curve_in(fixed), s.u0, s.u1);
+    if is_thrown(w, zmax_in(fixed), s) {
         so_far
     } else {
         recursive_intersect(fixed, flip, s, depth, so_far)

@@ -51,11 +51,12 @@ isOffZWhole cp w zmax =
     lt (maxOf (maxOf (cp .p0 .z) (cp .p1 .z)) (maxOf (cp .p2 .z) (cp .p3 .z)) ⊕ w) 0f
     || lt zmax (minOf (minOf (cp .p0 .z) (cp .p1 .z)) (minOf (cp .p2 .z) (cp .p3 .z)) ⊕ w)
 
--- a half is thrown out: the tests of recursive_intersect
+-- a half of half the width w is thrown out: the tests of recursive_intersect
+unfoldable pub isThrownBy : Float → Float → Segment → Bool
+isThrownBy w zmax s = isOffY (s .cp) w || isOffX (s .cp) w || isOffZ (s .cp) w zmax
+
 unfoldable pub isThrown : Curve → Float → Segment → Bool
-isThrown c zmax s =
-    let w = halfWidth c (s .u0) (s .u1) in
-    isOffY (s .cp) w || isOffX (s .cp) w || isOffZ (s .cp) w zmax
+isThrown c zmax s = isThrownBy (halfWidth c (s .u0) (s .u1)) zmax s
 
 -- the whole is thrown out: the tests of intersect
 unfoldable pub isWholeThrown : Curve → Float → Segment → Bool

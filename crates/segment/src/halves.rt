@@ -1,6 +1,6 @@
 // Segments of a curve in the ray's frame, their halves, and the tests that throw one out.
 ghost use mathlib.Core.Path.{_≡_};
-ghost use Rattle.segment.specs.Halves.{middleOf, halvesOf, halfWidth, isOff, isOffZWhole, isThrown, isWholeThrown};
+ghost use Rattle.segment.specs.Halves.{middleOf, halvesOf, halfWidth, isOff, isOffZWhole, isThrownBy, isWholeThrown};
 use curve::Cubic;
 use curve::Curve;
 use curve::subdivide_bezier;
@@ -46,7 +46,7 @@ pub fn halve(s: Segment) -> Halves
 }
 
 // Half the larger of the widths at a segment's ends.
-fn half_width(c: Curve, u0: f32, u1: f32) -> f32
+pub fn half_width(c: Curve, u0: f32, u1: f32) -> f32
     ensures { λ r. ⌜ r ≡ halfWidth c u0 u1 ⌝ }
 {
     0.5 * float::max(width_at(c, u0), width_at(c, u1))
@@ -70,11 +70,10 @@ fn is_off_z_whole(cp: Cubic, w: f32, zmax: f32) -> bool
     (top + w < 0.0) | (bottom + w > zmax)
 }
 
-// Whether a half is thrown out. First y, the extent of which is the smallest as a rule.
-pub fn is_thrown(c: Curve, zmax: f32, s: Segment) -> bool
-    ensures { λ r. ⌜ r ≡ isThrown c zmax s ⌝ }
+// Whether a half is thrown out, with half its width. First y, the extent of which is the smallest as a rule.
+pub fn is_thrown(w: f32, zmax: f32, s: Segment) -> bool
+    ensures { λ r. ⌜ r ≡ isThrownBy w zmax s ⌝ }
 {
-    let w = half_width(c, s.u0, s.u1);
     if is_off(s.cp.p0.y, s.cp.p1.y, s.cp.p2.y, s.cp.p3.y, w, 0.0) {
         true
     } else if is_off(s.cp.p0.x, s.cp.p1.x, s.cp.p2.x, s.cp.p3.x, w, 0.0) {

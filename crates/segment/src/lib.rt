@@ -19,6 +19,7 @@ pub use frame::Framed;
 pub use frame::frame_curve;
 pub use halves::Halves;
 pub use halves::Segment;
+pub use halves::half_width;
 pub use halves::halve;
 pub use halves::is_thrown;
 pub use halves::is_whole_thrown;

@@ -13,7 +13,7 @@ enum-told c = search needs
 
 returns : tie.Need-returns
 unfolding axesOf
-returns c = rw (c .before .before .v2 .given .1, ← c .cross .ensures)
+returns c = rw (c .before .before .v2 .given .1, ← c .cross-parts .ensures)
 
 returns-2 : tie.Need-returns-2
 unfolding axesOf

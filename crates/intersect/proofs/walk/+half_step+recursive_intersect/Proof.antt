@@ -12,6 +12,7 @@ use Rattle.intersect.proofs.walk.recursive_intersect.Kinds as walk-kind
 use Rattle.intersect.proofs.walk.+half_step+recursive_intersect.Lts-recursive_intersect as walk-lts
 use Rattle.segment.proofs.context_from.Reads as context-from-reads
 use Rattle.segment.proofs.curve_in.Reads as curve-in-reads
+use Rattle.segment.proofs.half_width.Reads as half-width-reads
 use Rattle.segment.proofs.zmax_in.Reads as zmax-in-reads
 use Rattle.segment.proofs.run_leaf.Reads as run-leaf-reads
 use Rattle.segment.proofs.halve.Reads as halve-reads
@@ -43,7 +44,7 @@ walk-below t = and 1 walk-kinds.ps (falls 1 walk-kinds.ps _<_ μ-walk t) walk.Pr
 
 -- what each is told of the functions that it calls
 abbrev half-step-calls : ℕ → half-step-lts.Claims
-half-step-calls t = (curve-in-reads.Asked, curve-in-reads.Learnt, zmax-in-reads.Asked, zmax-in-reads.Learnt, is-thrown-reads.Asked, is-thrown-reads.Learnt, walk-below t, walk.Post)
+half-step-calls t = (curve-in-reads.Asked, curve-in-reads.Learnt, half-width-reads.Asked, half-width-reads.Learnt, zmax-in-reads.Asked, zmax-in-reads.Learnt, is-thrown-reads.Asked, is-thrown-reads.Learnt, walk-below t, walk.Post)
 
 abbrev walk-calls : ℕ → walk-lts.Claims
 walk-calls t = (
@@ -64,15 +65,15 @@ walk-calls t = (
 )
 
 half-step-walk-requires : (t : ℕ) → half-step-lts.Need-recursive-intersect-requires (half-step-calls t) (half-step-at t) half-step.Post
-half-step-walk-requires t c κs = (omega arith, c .before .before .before .before .pre .1)
+half-step-walk-requires t c κs = (omega arith, c .before .before .before .before .before .pre .1)
 
 half-step-returns : (t : ℕ) → half-step-lts.Need-returns (half-step-calls t) (half-step-at t) half-step.Post
-half-step-returns t c = half-out _ _ _ _ _ _ _ _ (c .before .before .before .curve-in .ensures) (c .before .before .zmax-in .ensures) (c .before .is-thrown .ensures) (c .if1 .taken)
+half-step-returns t c = half-out _ _ _ _ _ _ _ _ _ (c .before .before .before .before .curve-in .ensures) (c .before .before .before .half-width .ensures) (c .before .before .zmax-in .ensures) (c .before .is-thrown .ensures) (c .if1 .taken)
 
 half-step-returns-2 : (t : ℕ) → half-step-lts.Need-returns-2 (half-step-calls t) (half-step-at t) half-step.Post
 half-step-returns-2 t c =
     let tested = c .before .before in
-    half-in _ _ _ _ _ _ _ _ (tested .before .before .curve-in .ensures) (tested .before .zmax-in .ensures) (tested .is-thrown .ensures) (c .before .if1 .left) _ (c .recursive-intersect .ensures)
+    half-in _ _ _ _ _ _ _ _ _ (tested .before .before .before .curve-in .ensures) (tested .before .before .half-width .ensures) (tested .before .zmax-in .ensures) (tested .is-thrown .ensures) (c .before .if1 .left) _ (c .recursive-intersect .ensures)
 
 walk-enter-requires : (t : ℕ) → walk-lts.Need-enter-requires (walk-calls t) (walk-at t) walk.Post
 walk-enter-requires t c κs = room-enter _ _ (c .pre .1)
@@ -104,5 +105,5 @@ walk-returns-3 t c =
 pub +half-step+recursive-intersect-spec : {M : Type 1} → statement M
 +half-step+recursive-intersect-spec =
     close μ-half-step μ-walk
-    (λ t. half-step-lts.spec (half-step-calls t) (half-step-at t) half-step.Post (λ c κs. tt) (λ c κs. tt) (λ c κs. tt) (half-step-walk-requires t) (half-step-returns t) (half-step-returns-2 t))
+    (λ t. half-step-lts.spec (half-step-calls t) (half-step-at t) half-step.Post (λ c κs. tt) (λ c κs. tt) (λ c κs. tt) (λ c κs. tt) (half-step-walk-requires t) (half-step-returns t) (half-step-returns-2 t))
     (λ t. walk-lts.spec (walk-calls t) (walk-at t) walk.Post (walk-enter-requires t) (λ c κs. tt) (λ c κs. tt) (λ c κs. tt) (λ c κs. tt) (λ c. omega arith) (walk-half-step-requires t) (λ c κs. tt) (λ c. omega arith) (walk-half-step-requires-2 t) (walk-returns t) (walk-returns-2 t) (walk-returns-3 t))

@@ -1,19 +1,19 @@
 -- `segment::halves::is_thrown` meets its contract: each return rewrites by the facts on its way. Assumes nothing.
-use Rattle.segment.specs.Halves.{isOffY, isOffX, isOffZ, isThrown}
+use Rattle.segment.specs.Halves.{isOffY, isOffX, isOffZ, isThrownBy}
 use Rattle.segment.proofs.halves.is_thrown.Statement.{statement}
 use Rattle.segment.proofs.halves.is_thrown.Tie as tie
 
 returns : tie.Need-returns
-unfolding isThrown isOffY isOffX isOffZ
-returns c = rw (← c .before .before .half-width .ensures, ← c .before .is-off .ensures, c .if1 .taken)
+unfolding isThrownBy isOffY isOffX isOffZ
+returns c = rw (← c .before .is-off .ensures, c .if1 .taken)
 
 returns-2 : tie.Need-returns-2
-unfolding isThrown isOffY isOffX isOffZ
-returns-2 c = rw (← c .before .before .before .before .half-width .ensures, ← c .before .before .before .is-off .ensures, c .before .before .if1 .left, ← c .before .is-off2 .ensures, c .if2 .taken)
+unfolding isThrownBy isOffY isOffX isOffZ
+returns-2 c = rw (← c .before .before .before .is-off .ensures, c .before .before .if1 .left, ← c .before .is-off2 .ensures, c .if2 .taken)
 
 returns-3 : tie.Need-returns-3
-unfolding isThrown isOffY isOffX isOffZ
-returns-3 c = rw (← c .before .before .before .before .before .half-width .ensures, ← c .before .before .before .before .is-off .ensures, c .before .before .before .if1 .left, ← c .before .before .is-off2 .ensures, c .before .if2 .left, ← c .is-off3 .ensures)
+unfolding isThrownBy isOffY isOffX isOffZ
+returns-3 c = rw (← c .before .before .before .before .is-off .ensures, c .before .before .before .if1 .left, ← c .before .before .is-off2 .ensures, c .before .if2 .left, ← c .is-off3 .ensures)
 
 pub is-thrown-spec : {M : Type 1} → statement M
-is-thrown-spec = tie.close (tie.spec (λ c κs. tt) (λ c κs. tt) (λ c κs. tt) (λ c κs. tt) returns returns-2 returns-3)
+is-thrown-spec = tie.close (tie.spec (λ c κs. tt) (λ c κs. tt) (λ c κs. tt) returns returns-2 returns-3)

@@ -1,4 +1,4 @@
--- `geometry::vector::Vector3f::cross` meets its contract: each return rewrites by the facts on its way.
+-- `geometry::vector::Vector3f::cross` meets its contract: it is the product by parts.
 -- Assumes nothing.
 use Rattle.geometry.specs.Vector.{crossOf}
 use Rattle.geometry.proofs.vector.Vector3f.cross.Statement.{statement}
@@ -6,7 +6,7 @@ use Rattle.geometry.proofs.vector.Vector3f.cross.Tie as tie
 
 returns : tie.Need-returns
 unfolding crossOf
-returns c = rw (c .minor3 .ensures, c .before .minor2 .ensures, c .before .before .minor .ensures)
+returns c = c .cross-parts .ensures
 
 pub cross-spec : {M : Type 1} → statement M
-cross-spec = tie.close (tie.spec (λ c κs. tt) (λ c κs. tt) (λ c κs. tt) returns)
+cross-spec = tie.close (tie.spec (λ c κs. tt) returns)
