@@ -1,5 +1,5 @@
 //! Stand-in for `num`: the traits that the supplied Rust names, for the types it uses them with.
-//! The float methods are f32's own; roots are counted.
+//! The float methods are f32's own; roots are counted, unless with `--cfg uncounted`.
 
 use std::cell::Cell;
 use std::ops::{Add, Div, Mul, Neg, Rem, Sub};
@@ -97,7 +97,9 @@ number!(isize, 0, 1);
 
 impl Float for f32 {
     fn sqrt(self) -> f32 {
-        ROOTS.set(ROOTS.get() + 1);
+        if cfg!(not(uncounted)) {
+            ROOTS.set(ROOTS.get() + 1);
+        }
 
         f32::sqrt(self)
     }

@@ -3,7 +3,8 @@
 //! stands here as empty types: no value of them is ever made.
 
 /// Statistics are not kept, but for the last value of a distribution: for curves that is the depth. What
-/// they report tells how far a call of `intersect` has come.
+/// they report tells how far a call of `intersect` has come. With `--cfg uncounted` not even that is kept:
+/// there the Rust is timed.
 #[macro_export]
 macro_rules! stat_int_distribution {
     ($title:expr, $name:ident) => {
@@ -15,7 +16,9 @@ macro_rules! stat_int_distribution {
             pub fn init() {}
 
             pub fn report_value(value: u64) {
-                LAST.store(value, Ordering::Relaxed);
+                if $crate::progress::KEPT {
+                    LAST.store(value, Ordering::Relaxed);
+                }
                 $crate::progress::enter_walk();
             }
 
@@ -77,6 +80,8 @@ pub mod progress {
         Record,
     }
 
+    pub const KEPT: bool = cfg!(not(uncounted));
+
     thread_local! {
         static PHASE: Cell<Phase> = const { Cell::new(Phase::Frame) };
         static ROOTS_BEFORE: Cell<u64> = const { Cell::new(0) };
@@ -85,28 +90,34 @@ pub mod progress {
 
     /// `intersect` begins: it counts its calls first of all.
     pub(crate) fn begin() {
-        PHASE.set(Phase::Frame);
+        if KEPT {
+            PHASE.set(Phase::Frame);
+        }
     }
 
     /// It reports the depth just before the walk.
     pub(crate) fn enter_walk() {
-        PHASE.set(Phase::Walk);
-        ROOTS_BEFORE.set(num::roots());
-        RECORDS.set(0);
+        if KEPT {
+            PHASE.set(Phase::Walk);
+            ROOTS_BEFORE.set(num::roots());
+            RECORDS.set(0);
+        }
     }
 
     /// The one sum of a point and a vector in the walk is the point of a hit: behind the crosswise vector,
     /// before the normal and the outgoing direction.
     pub(crate) fn sum() {
-        if PHASE.get() == Phase::Walk {
+        if KEPT && PHASE.get() == Phase::Walk {
             PHASE.set(Phase::Record);
         }
     }
 
     /// A sliver counts as hit once its record is made.
     pub(crate) fn end_record() {
-        PHASE.set(Phase::Walk);
-        RECORDS.set(RECORDS.get() + 1);
+        if KEPT {
+            PHASE.set(Phase::Walk);
+            RECORDS.set(RECORDS.get() + 1);
+        }
     }
 
     pub fn phase() -> Phase {

@@ -1,0 +1,154 @@
+//! The library's C functions, as include/curve.h has them, and how they are timed.
+
+use crate::draw::{Beam, Belt, Matrix, Piece};
+use std::hint::black_box;
+use std::time::{Duration, Instant};
+
+extern "C" {
+    fn curve_create(
+        points: *const f32,
+        len: usize,
+        degree: u32,
+        basis: u32,
+        ty: u32,
+        width0: f32,
+        width1: f32,
+        splitdepth: u32,
+        list: *mut f32,
+        list_len: usize,
+        pieces: *mut u32,
+    ) -> u32;
+    fn curve_object_bound(piece: *const f32, len: usize, out: *mut [f32; 6]) -> u32;
+    fn curve_world_bound(
+        piece: *const f32,
+        len: usize,
+        object_to_world: *const Matrix,
+        out: *mut [f32; 6],
+    ) -> u32;
+    fn curve_area(piece: *const f32, len: usize, out: *mut f32) -> u32;
+    fn curve_intersect(
+        piece: *const f32,
+        len: usize,
+        object_to_world: *const Matrix,
+        world_to_object: *const Matrix,
+        reverse: u32,
+        ray: *const [f32; 8],
+        record: *mut [f32; 22],
+        looked: *mut u32,
+    ) -> u32;
+}
+
+pub const LIST: usize = 16 * 1024;
+
+#[derive(Default)]
+pub struct Answer {
+    /// 0 a hit, 1 a miss, else a refusal.
+    pub status: u32,
+    pub looked: u32,
+    /// t, u, v, p, error, time, wo, n, dpdu, dpdv.
+    pub record: [f32; 22],
+}
+
+pub fn answer(beam: &Beam) -> Answer {
+    let mut answer = Answer::default();
+    intersect(beam, &mut answer);
+
+    answer
+}
+
+fn intersect(beam: &Beam, answer: &mut Answer) {
+    let Beam {
+        piece, place, ray, ..
+    } = beam;
+    // Every pointer has room for what the header says, and no output overlaps anything.
+    answer.status = unsafe {
+        curve_intersect(
+            piece.as_ptr(),
+            piece.len(),
+            &place.object_to_world,
+            &place.world_to_object,
+            beam.reverse as u32,
+            ray,
+            &mut answer.record,
+            &mut answer.looked,
+        )
+    };
+}
+
+pub fn laid(belt: &Belt, list: &mut [f32; LIST]) -> u32 {
+    let mut pieces = 0;
+    let status = unsafe {
+        curve_create(
+            belt.points.as_ptr(),
+            belt.points.len(),
+            3,
+            belt.spline as u32,
+            0,
+            belt.widths[0],
+            belt.widths[1],
+            belt.split,
+            list.as_mut_ptr(),
+            list.len(),
+            &mut pieces,
+        )
+    };
+    assert_eq!(status, 0);
+
+    pieces
+}
+
+pub fn bound(piece: &Piece, out: &mut [f32; 6]) -> u32 {
+    unsafe { curve_object_bound(piece.as_ptr(), piece.len(), out) }
+}
+
+pub fn world_bound(piece: &Piece, object_to_world: &Matrix, out: &mut [f32; 6]) -> u32 {
+    unsafe { curve_world_bound(piece.as_ptr(), piece.len(), object_to_world, out) }
+}
+
+pub fn area(piece: &Piece, out: &mut f32) -> u32 {
+    unsafe { curve_area(piece.as_ptr(), piece.len(), out) }
+}
+
+pub fn time_beams(beams: &[Beam], times: u32) -> Duration {
+    let mut answer = Answer::default();
+    let start = Instant::now();
+    for _ in 0..times {
+        for beam in beams {
+            intersect(black_box(beam), &mut answer);
+            black_box(&mut answer);
+        }
+    }
+
+    start.elapsed()
+}
+
+pub fn time_laying(belts: &[Belt], times: u32) -> Duration {
+    let mut list = Box::new([0.0; LIST]);
+    let start = Instant::now();
+    for _ in 0..times {
+        for belt in belts {
+            black_box(laid(black_box(belt), &mut list));
+            black_box(&mut list);
+        }
+    }
+
+    start.elapsed()
+}
+
+/// One of the calls that take a piece, on all pieces.
+pub fn time_pieces<P, T: Default>(
+    pieces: &[P],
+    times: u32,
+    call: impl Fn(&P, &mut T) -> u32,
+) -> Duration {
+    let mut out = T::default();
+    let start = Instant::now();
+    for _ in 0..times {
+        for piece in pieces {
+            black_box(call(black_box(piece), &mut out));
+            black_box(&mut out);
+        }
+    }
+
+    start.elapsed()
+}

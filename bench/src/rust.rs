@@ -1,0 +1,205 @@
+//! The unchanged Rust on the same inputs, and how it is timed. Curves, transforms and sets of parameters are
+//! made beforehand, as a scene's are; a ray is made for each call, and so is the handle on the shape that
+//! `intersect` takes as `s`. The interaction that it fills is the caller's, and is made once.
+
+use crate::draw::{Beam, Belt, Matrix, Piece, Place};
+use pbrt::core::geometry::bounds::Bounds3f;
+use pbrt::core::geometry::point::Point3f;
+use pbrt::core::geometry::ray::Ray;
+use pbrt::core::geometry::vector::Vector3f;
+use pbrt::core::interaction::SurfaceInteraction;
+use pbrt::core::paramset::ParamSet;
+use pbrt::core::shape::{Shape, Shapes};
+use pbrt::core::transform::{Matrix4x4, Transform};
+use pbrt::shapes::curve::{self, Curve, CurveCommon, CurveType};
+use std::hint::black_box;
+use std::sync::Arc;
+use std::time::{Duration, Instant};
+
+/// A curve and a ray at it.
+pub struct Aimed {
+    shape: Arc<Shapes>,
+    ray: [f32; 8],
+}
+
+/// The transforms of a place: object_to_world and world_to_object.
+type Transforms = [Arc<Transform>; 2];
+
+pub fn aimed(beams: &[Beam]) -> Vec<Aimed> {
+    let mut made: Option<(&Arc<Place>, Transforms)> = None;
+    let mut all = Vec::new();
+    for beam in beams {
+        let transforms = match &made {
+            Some((place, transforms)) if Arc::ptr_eq(place, &beam.place) => transforms.clone(),
+            _ => transforms(&beam.place),
+        };
+        made = Some((&beam.place, transforms.clone()));
+        all.push(Aimed {
+            shape: shape(&beam.piece, transforms, beam.reverse),
+            ray: beam.ray,
+        });
+    }
+
+    all
+}
+
+/// Each piece at its own place.
+pub fn shapes(pieces: &[(Piece, Arc<Place>)]) -> Vec<Arc<Shapes>> {
+    let one = |(piece, place): &(Piece, Arc<Place>)| shape(piece, transforms(place), false);
+
+    pieces.iter().map(one).collect()
+}
+
+fn transforms(place: &Place) -> Transforms {
+    let transform = |m: &Matrix, inverse: &Matrix| {
+        let [m, inverse] = [m, inverse].map(|entries| Matrix4x4::from_row_slice(entries));
+        Arc::new(Transform::from_matrices(&m, &inverse))
+    };
+    let Place {
+        object_to_world,
+        world_to_object,
+    } = place;
+
+    [
+        transform(object_to_world, world_to_object),
+        transform(world_to_object, object_to_world),
+    ]
+}
+
+fn shape(piece: &Piece, transforms: Transforms, reverse: bool) -> Arc<Shapes> {
+    let point = |i: usize| Point3f::new(piece[3 * i], piece[3 * i + 1], piece[3 * i + 2]);
+    let points = [point(0), point(1), point(2), point(3)];
+    let common = CurveCommon::new(points, piece[12], piece[13], CurveType::Flat, None);
+    let [object_to_world, world_to_object] = transforms;
+
+    Arc::new(Shapes::from(Curve::new(
+        object_to_world,
+        world_to_object,
+        reverse,
+        Arc::new(common),
+        piece[14],
+        piece[15],
+    )))
+}
+
+impl Aimed {
+    /// The record of a hit, as ours has it.
+    pub fn answer(&self) -> Option<[f32; 22]> {
+        let mut t = 0.0;
+        let mut isect = SurfaceInteraction::default();
+        let hit = self.intersect(&mut t, &mut isect);
+
+        hit.then(|| record(t, &isect))
+    }
+
+    fn intersect(&self, t: &mut f32, isect: &mut SurfaceInteraction) -> bool {
+        let [ox, oy, oz, dx, dy, dz, t_max, time] = self.ray;
+        let o = Point3f::new(ox, oy, oz);
+        let d = Vector3f::new(dx, dy, dz);
+        let ray = Ray::new(&o, &d, t_max, time, None, None);
+
+        self.shape
+            .intersect(&ray, t, isect, false, Some(self.shape.clone()))
+    }
+}
+
+fn record(t: f32, isect: &SurfaceInteraction) -> [f32; 22] {
+    let SurfaceInteraction {
+        p,
+        time,
+        p_error,
+        wo,
+        n,
+        uv,
+        dpdu,
+        dpdv,
+        ..
+    } = isect;
+
+    [
+        t, uv.x, uv.y, p.x, p.y, p.z, p_error.x, p_error.y, p_error.z, *time, wo.x, wo.y, wo.z,
+        n.x, n.y, n.z, dpdu.x, dpdu.y, dpdu.z, dpdv.x, dpdv.y, dpdv.z,
+    ]
+}
+
+pub fn corners(bounds: Bounds3f) -> [f32; 6] {
+    let Bounds3f { p_min, p_max } = bounds;
+
+    [p_min.x, p_min.y, p_min.z, p_max.x, p_max.y, p_max.z]
+}
+
+/// What create_curve_shape looks up.
+pub fn params(belt: &Belt) -> ParamSet {
+    let point = |p: &[f32]| Point3f::new(p[0], p[1], p[2]);
+    let basis = if belt.spline { "bspline" } else { "bezier" };
+    let mut set = ParamSet::default();
+    set.add_int("degree", vec![3]);
+    set.add_string("basis", vec![basis.to_string()]);
+    set.add_string("type", vec!["flat".to_string()]);
+    set.add_float("width0", vec![belt.widths[0]]);
+    set.add_float("width1", vec![belt.widths[1]]);
+    set.add_int("splitdepth", vec![belt.split as isize]);
+    set.add_point3f("P", belt.points.chunks(3).map(point).collect());
+
+    set
+}
+
+pub fn laid(params: &ParamSet, identity: &Arc<Transform>) -> Vec<Arc<Shapes>> {
+    curve::create_curve_shape(identity.clone(), identity.clone(), false, params)
+}
+
+/// The pieces' floats, as ours has them.
+pub fn floats(shapes: &[Arc<Shapes>]) -> Vec<f32> {
+    let one = |shape: &Arc<Shapes>| {
+        let Shapes::Curve(curve) = shape.as_ref();
+        curve::record(curve)
+    };
+
+    shapes.iter().flat_map(one).collect()
+}
+
+pub fn time_beams(beams: &[Aimed], times: u32) -> Duration {
+    let mut t = 0.0;
+    let mut isect = SurfaceInteraction::default();
+    let start = Instant::now();
+    for _ in 0..times {
+        for beam in beams {
+            black_box(black_box(beam).intersect(&mut t, &mut isect));
+            black_box((&mut t, &mut isect));
+        }
+    }
+
+    start.elapsed()
+}
+
+/// The shapes are given back to the allocator outside of the time.
+pub fn time_laying(params: &[ParamSet], times: u32) -> Duration {
+    let identity = Arc::new(Transform::default());
+    let mut time = Duration::ZERO;
+    for _ in 0..times {
+        for set in params {
+            let start = Instant::now();
+            let shapes = black_box(laid(black_box(set), &identity));
+            time += start.elapsed();
+            drop(shapes);
+        }
+    }
+
+    time
+}
+
+/// One of the methods that take nothing but the curve, on all curves.
+pub fn time_shapes<T>(
+    shapes: &[Arc<Shapes>],
+    times: u32,
+    method: impl Fn(&Shapes) -> T,
+) -> Duration {
+    let start = Instant::now();
+    for _ in 0..times {
+        for shape in shapes {
+            black_box(method(black_box(shape)));
+        }
+    }
+
+    start.elapsed()
+}
