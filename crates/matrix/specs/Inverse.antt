@@ -123,3 +123,8 @@ inverseFlat m =
     let p3 = pivotOf m3 i3 in
     let m4 = turned m3 p3 in
     swapColumns (swapColumns (swapColumns (swapColumns m4 (p3 .row) (p3 .col)) (p2 .row) (p2 .col)) (p1 .row) (p1 .col)) (p0 .row) (p0 .col)
+
+-- For functions inside: a row's entry x of column k, or what is put in its place where that is column c. The code reads a row whole before
+-- it writes any of it.
+unfoldable pub butAt : Float → ℕ → ℕ → Float → Float
+butAt x k c other = cond (eqb k c) other x

@@ -2,8 +2,9 @@
 // operation as Matrix4x4::inverse of pbrt-rust (src/core/transform.rs). A NaN is never taken for a pivot, the later
 // of two equal entries is, and a singular matrix is inverted onward, to infinities and NaNs.
 ghost use mathlib.Core.Path.{_≡_};
+ghost use mathlib.Core.Logic.{_≢_};
 ghost use Prim.Native.Nat.{_<_};
-ghost use Rattle.matrix.specs.Inverse.{Placed, AtMost, marked, lookEntry, lookAlong, lookRow, pivotOf, swapAt, exchangeRows, swapRows, scaleRow, cleared, clearRow, eliminated, turned, exchangeColumns, swapColumns, inverseFlat};
+ghost use Rattle.matrix.specs.Inverse.{Placed, AtMost, marked, lookEntry, lookAlong, lookRow, pivotOf, swapAt, exchangeRows, swapRows, butAt, scaleRow, cleared, clearRow, eliminated, turned, exchangeColumns, swapColumns, inverseFlat};
 
 // The pivot found so far: big, irow and icol.
 pub struct Pivot {
@@ -96,34 +97,48 @@ fn swap_rows(m: &mut [f32; 16], i: usize, j: usize)
     exchange_rows(m, i, j);
 }
 
-// The pivot's row, divided by the pivot.
+// x, or in the pivot's column what stands there instead.
+fn but_at(x: f32, k: usize, c: usize, other: f32) -> f32
+    ensures { λ r. ⌜ r ≡ butAt x k c other ⌝ }
+{
+    if k == c { other } else { x }
+}
+
+// The pivot's row, divided by the pivot. The whole row is read before any of it is written: a write of one entry right
+// before the row is read costs more than all the arithmetic.
 fn scale_row(m: &mut [f32; 16], c: usize)
     requires { ⌜ c < 4 ⌝ }
     ensures { λ _. ⌜ now (m .exit) ≡ scaleRow (now (m .entry)) c ⌝ }
 {
     let r = 4 * c;
-    let x = m[r + c];
-    let v = 1.0f32 / x;
-    m[r + c] = 1.0f32;
-    m[r] = m[r] * v;
-    m[r + 1] = m[r + 1] * v;
-    m[r + 2] = m[r + 2] * v;
-    m[r + 3] = m[r + 3] * v;
+    let v = 1.0f32 / m[r + c];
+    let x0 = but_at(m[r], 0, c, 1.0f32);
+    let x1 = but_at(m[r + 1], 1, c, 1.0f32);
+    let x2 = but_at(m[r + 2], 2, c, 1.0f32);
+    let x3 = but_at(m[r + 3], 3, c, 1.0f32);
+    m[r] = x0 * v;
+    m[r + 1] = x1 * v;
+    m[r + 2] = x2 * v;
+    m[r + 3] = x3 * v;
 }
 
-// Row j less the pivot's row times what row j has in the pivot's column.
+// Row j less the pivot's row times what row j has in the pivot's column. Row j is read before any of it is written,
+// and the pivot's row is another, which no write touches.
 fn clear(m: &mut [f32; 16], c: usize, j: usize)
-    requires { ⌜ (c < 4) × (j < 4) ⌝ }
+    requires { ⌜ (c < 4) × (j < 4) × (j ≢ c) ⌝ }
     ensures { λ _. ⌜ now (m .exit) ≡ cleared (now (m .entry)) c j ⌝ }
 {
     let r = 4 * j;
     let p = 4 * c;
     let save = m[r + c];
-    m[r + c] = 0.0f32;
-    m[r] = m[r] - m[p] * save;
-    m[r + 1] = m[r + 1] - m[p + 1] * save;
-    m[r + 2] = m[r + 2] - m[p + 2] * save;
-    m[r + 3] = m[r + 3] - m[p + 3] * save;
+    let x0 = but_at(m[r], 0, c, 0.0f32);
+    let x1 = but_at(m[r + 1], 1, c, 0.0f32);
+    let x2 = but_at(m[r + 2], 2, c, 0.0f32);
+    let x3 = but_at(m[r + 3], 3, c, 0.0f32);
+    m[r] = x0 - m[p] * save;
+    m[r + 1] = x1 - m[p + 1] * save;
+    m[r + 2] = x2 - m[p + 2] * save;
+    m[r + 3] = x3 - m[p + 3] * save;
 }
 
 fn clear_row(m: &mut [f32; 16], c: usize, j: usize)

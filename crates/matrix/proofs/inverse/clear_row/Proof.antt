@@ -16,4 +16,4 @@ returns-2 c = simp (ne-eqb _ _ (c .before .before .if1 .left)) (c .clear .ensure
 pub clear-row-spec : {M : Type 1} → statement M
 clear-row-spec =
     tie.close
-    (tie.spec returns (λ c κs. search needs) returns-2)
+    (tie.spec returns (λ c κs. search (needs, c .before .if1 .left)) returns-2)

@@ -1,20 +1,25 @@
 -- `matrix::inverse::scale_row` meets its contract. Assumes nothing.
 use borrow.Author.Needs.{needs}
-use mathlib.Core.Path.{refl}
-use Rattle.matrix.specs.Inverse.{scaleRow}
+use Rattle.matrix.specs.Inverse.{butAt}
+use Rattle.matrix.proofs.Rows.{scaled}
 use Rattle.matrix.proofs.inverse.scale_row.Statement.{statement}
 use Rattle.matrix.proofs.inverse.scale_row.Tie as tie
 
 returns : tie.Need-returns
-unfolding scaleRow
-returns c = refl
+unfolding butAt
+returns c =
+    let b2 = c .before .before in
+    let b1 = b2 .before .before in
+    let b0 = b1 .before .before in
+    rw (c .but-at4 .ensures, b2 .but-at3 .ensures, b1 .but-at2 .ensures, b0 .but-at .ensures) (scaled _ _ (b0 .before .before .before .pre))
 
 pub scale-row-spec : {M : Type 1} → statement M
 scale-row-spec =
     tie.close
     (tie.spec (λ c. search needs) (λ c. search needs) (λ c. search needs) (λ c. search needs) (λ c. search needs)
+    (λ c. search needs) (λ c κs. tt) (λ c. search needs) (λ c. search needs) (λ c. search needs)
+    (λ c κs. tt) (λ c. search needs) (λ c. search needs) (λ c. search needs) (λ c κs. tt)
+    (λ c. search needs) (λ c. search needs) (λ c. search needs) (λ c κs. tt) (λ c. search needs)
     (λ c. search needs) (λ c. search needs) (λ c. search needs) (λ c. search needs) (λ c. search needs)
     (λ c. search needs) (λ c. search needs) (λ c. search needs) (λ c. search needs) (λ c. search needs)
-    (λ c. search needs) (λ c. search needs) (λ c. search needs) (λ c. search needs) (λ c. search needs)
-    (λ c. search needs) (λ c. search needs) (λ c. search needs) (λ c. search needs) (λ c. search needs)
-    (λ c. search needs) (λ c. search needs) (λ c. search needs) (λ c. search needs) returns)
+    returns)
