@@ -15,30 +15,32 @@ use Rattle.curve.specs.declared.curve.Curve.{Curve}
 use Rattle.segment.specs.declared.frame.Context.{Context}
 use Rattle.segment.specs.declared.halves.Segment.{Segment}
 use Rattle.segment.specs.declared.halves.Halves.{Halves}
+use Rattle.segment.specs.declared.leaf.Crossing.{Crossing}
+use Rattle.segment.specs.declared.leaf.Frame.{Frame}
 use Rattle.segment.specs.declared.leaf.Leaf.{Leaf}
 use Rattle.segment.specs.declared.leaf.Leaf.the-variants.{Passes, Fails, NoFrame}
+use Rattle.segment.specs.Found.{foundFloats}
+use Rattle.segment.proofs.Law.{crossing-back, frame-back}
 use Rattle.intersect.specs.declared.walk.Walked.{Walked}
-use Rattle.intersect.specs.declared.walk.Walked.the-variants.{Hit, Miss, Refused}
+use Rattle.intersect.specs.declared.walk.Walked.the-variants.{Hit}
 use Rattle.segment.specs.Halves.{lowHalf, highHalf, halvesOf, halfWidth, isThrownBy, isThrown}
 use Rattle.segment.specs.Fixed.{zmaxFrom, contextFrom}
 use Rattle.segment.specs.Leaf.{leafOf}
-use Rattle.intersect.specs.Walk.{sizeOf, entered, settled, isOver, walkIn, halfIn}
+use Rattle.intersect.specs.Intersect.{stops}
+use Rattle.intersect.specs.Walk.{Reached, entered, later, settled, isOver, walkIn, halfIn, lastIn, reached}
 
 -- ---- the count
 
-entered-size : (r : Walked) → sizeOf (entered r) ≤ sizeOf r + 1
-unfolding sizeOf entered
-entered-size (Hit at f n) = le-refl (n + 1)
-entered-size (Miss n) = le-refl (n + 1)
-entered-size (Refused k) = omega arith
+abbrev sizeOf : Reached → ℕ
+sizeOf r = r .1
 
-settled-size : (l : Leaf) (r : Walked) → sizeOf (settled l r) ≤ sizeOf r
-unfolding sizeOf settled
-settled-size (Passes at f) (Hit before g n) = le-refl n
-settled-size (Passes at f) (Miss n) = le-refl n
-settled-size (Passes at f) (Refused k) = le-refl 0
-settled-size Fails r = le-refl (sizeOf r)
-settled-size (NoFrame k t) r = omega arith
+entered-size : (r : Reached) → sizeOf (entered r) ≤ sizeOf r + 1
+unfolding entered
+entered-size r = le-refl (r .1 + 1)
+
+settled-size : (l : Leaf) (r : Reached) → sizeOf (settled l r) ≤ sizeOf r
+unfolding settled
+settled-size l r = le-refl (r .1)
 
 pub room-enter : (n d : ℕ) → n + 2 ^ suc d ≤ 2 ^ 32 → n + 1 < 2 ^ 32
 room-enter n d h = omega (arith, pow-two d, pow-pos d)
@@ -48,43 +50,64 @@ level-below : (d : ℕ) → (d ≡ 0 → ⊥) → 2 ^ suc (d - 1) + 2 ^ suc (d -
 level-below zero f = absurd (f refl)
 level-below (suc d) f = let e : suc d - 1 ≡ d = omega arith in rw e (sym (pow-two (suc d)))
 
-pub room-low : (d : ℕ) (r e : Walked) → (d ≡ 0 → ⊥) → sizeOf r + 2 ^ suc d ≤ 2 ^ 32 → e ≡ entered r → sizeOf e + 2 ^ suc (d - 1) ≤ 2 ^ 32
-room-low d r e f h p = omega (arith, level-below d f, pow-pos (suc (d - 1)), entered-size r, ap sizeOf p)
+pub room-low : (d n : ℕ) → (d ≡ 0 → ⊥) → n + 2 ^ suc d ≤ 2 ^ 32 → n + 1 + 2 ^ suc (d - 1) ≤ 2 ^ 32
+room-low d n f h = omega (arith, level-below d f, pow-pos (suc (d - 1)))
 
-pub room-high : (c : Context) (p : Segment) (d : ℕ) (r e q : Walked) → (d ≡ 0 → ⊥) → sizeOf r + 2 ^ suc d ≤ 2 ^ 32 → e ≡ entered r → q ≡ halfIn c (d - 1) p e → sizeOf q + 2 ^ suc (d - 1) ≤ 2 ^ 32
-unfolding halfIn
-room-high c p d r e q f h u v =
-    let grown = half-size lowHalf highHalf (isThrown (c .curve) (c .zmax)) entered (λ s. settled (leafOf c s)) isOver sizeOf entered-size (λ s. settled-size (leafOf c s)) (d - 1) p e in
-    omega (arith, level-below d f, entered-size r, ap sizeOf u, ap sizeOf v, grown)
+pub room-high : (c : Context) (p : Segment) (d n m : ℕ) (l x : List Float) (r q : Walked) → (d ≡ 0 → ⊥) → n + 2 ^ suc d ≤ 2 ^ 32
+    → reached q x m ≡ halfIn c (d - 1) p (reached r l (n + 1)) → m + 2 ^ suc (d - 1) ≤ 2 ^ 32
+unfolding halfIn reached
+room-high c p d n m l x r q f h e =
+    let grown = half-size lowHalf highHalf (isThrown (c .curve) (c .zmax)) entered (λ s. settled (leafOf c s)) isOver sizeOf entered-size (λ s. settled-size (leafOf c s)) (d - 1) p (reached r l (n + 1)) in
+    omega (arith, level-below d f, ap sizeOf e, grown)
 
 -- ---- the returns
 
-module _ (l : List Float) (flip : Bool) (s : Segment) (d : ℕ) (r : Walked) (k : Curve) (w z : Float) (b : Bool)
+module _ (l : List Float) (flip : Bool) (s : Segment) (d : ℕ) (k : Curve) (w z : Float) (b : Bool)
     (curve : k ≡ curveFrom l) (wide : w ≡ halfWidth k (s .u0) (s .u1)) (limit : z ≡ zmaxFrom l) (tested : b ≡ isThrownBy w z s) where
   is-tested : isThrown (contextFrom l flip .curve) (contextFrom l flip .zmax) s ≡ b
   unfolding contextFrom isThrown
   is-tested = cc
 
-  pub half-out : b ≡ true → r ≡ halfIn (contextFrom l flip) d s r
+  pub half-out : b ≡ true → (r : Reached) → r ≡ halfIn (contextFrom l flip) d s r
   unfolding halfIn
-  half-out t = rw (is-tested, t)
+  half-out t r = rw (is-tested, t)
 
-  pub half-in : b ≡ false → (q : Walked) → q ≡ walkIn (contextFrom l flip) d s r → q ≡ halfIn (contextFrom l flip) d s r
+  pub half-in : b ≡ false → (q r : Reached) → q ≡ walkIn (contextFrom l flip) d s r → q ≡ halfIn (contextFrom l flip) d s r
   unfolding halfIn walkIn
-  half-in t q e = rw (is-tested, t) e
+  half-in t q r e = rw (is-tested, t) e
 
-pub walk-ends : (l : List Float) (flip : Bool) (s : Segment) (d : ℕ) (r e q : Walked) (c : Context) (x : Leaf) → d ≡ 0 → e ≡ entered r → c ≡ contextFrom l flip → x ≡ leafOf c s → q ≡ settled x e
-    → q ≡ walkIn (contextFrom l flip) d s r
-unfolding walkIn walkOf
-walk-ends l flip s d r e q c x z u k v w = rw (w, v, k, u, z)
+pub walk-ends : (l : List Float) (flip : Bool) (s : Segment) (d n : ℕ) (r q : Walked) (x y : List Float) (c : Context) (a : Leaf) → d ≡ 0 → c ≡ contextFrom l flip → a ≡ leafOf c s
+    → lastIn q y ≡ later a (lastIn r x) → reached q y (n + 1) ≡ walkIn (contextFrom l flip) d s (reached r x n)
+unfolding walkIn walkOf settled entered reached
+walk-ends l flip s d n r q x y c a z k v w = rw (w, v, k, z)
+
+-- ---- what `settle` writes
+
+pub settle-hit : (l before : Leaf) (at : Crossing) (f : Frame) (x : List Float) → l ≡ Passes at f → x ≡ foundFloats at f → lastIn Hit x ≡ later l before
+settle-hit l before at f x e k = rw (e, k, crossing-back, frame-back)
+
+pub settle-none : (l before : Leaf) → l ≡ Fails → before ≡ later l before
+settle-none l before e = rw e
+
+pub settle-refused : (l before : Leaf) (k : ℕ) (t : Float) → l ≡ NoFrame k t → NoFrame k t ≡ later l before
+settle-refused l before k t e = rw e
+
+-- the count goes up by one
+pub one-more : (r : Walked) (l : List Float) (n : ℕ) → reached r l (n + 1) ≡ entered (reached r l n)
+unfolding reached entered
+one-more r l n = refl
+
+pub over-is : (r : Walked) (l : List Float) (n : ℕ) (b : Bool) → b ≡ stops (lastIn r l) → b ≡ isOver (reached r l n)
+unfolding isOver reached
+over-is r l n b e = e
 
 -- the two halves of a walk that is not at its end
-walk-cuts : (c : Context) (s : Segment) (d : ℕ) (r : Walked) → (d ≡ 0 → ⊥) → walkIn c d s r ≡ onward isOver (halfIn c (d - 1) (highHalf s)) (halfIn c (d - 1) (lowHalf s) (entered r))
+walk-cuts : (c : Context) (s : Segment) (d : ℕ) (r : Reached) → (d ≡ 0 → ⊥) → walkIn c d s r ≡ onward isOver (halfIn c (d - 1) (highHalf s)) (halfIn c (d - 1) (lowHalf s) (entered r))
 unfolding walkIn halfIn walkOf
 walk-cuts c s zero r f = absurd (f refl)
 walk-cuts c s (suc d) r f = let e : suc d - 1 ≡ d = omega arith in rw e
 
-module _ (c : Context) (s : Segment) (h : Halves) (d : ℕ) (r e q : Walked) (b : Bool)
+module _ (c : Context) (s : Segment) (h : Halves) (d : ℕ) (r e q : Reached) (b : Bool)
     (cut : d ≡ 0 → ⊥) (counted : e ≡ entered r) (halved : h ≡ halvesOf s) (first : q ≡ halfIn c (d - 1) (h .low) e) (over : b ≡ isOver q) where
   -- the walk of the low half
   low-walked : halfIn c (d - 1) (lowHalf s) (entered r) ≡ q
@@ -96,7 +119,7 @@ module _ (c : Context) (s : Segment) (h : Halves) (d : ℕ) (r e q : Walked) (b 
       let o : isOver q ≡ true = cc in
       rw (walk-cuts c s d r cut, low-walked, o)
 
-  pub walk-goes : b ≡ false → (q′ : Walked) → q′ ≡ halfIn c (d - 1) (h .high) q → q′ ≡ walkIn c d s r
+  pub walk-goes : b ≡ false → (q′ : Reached) → q′ ≡ halfIn c (d - 1) (h .high) q → q′ ≡ walkIn c d s r
   unfolding halvesOf
   walk-goes t q′ w =
       let high : h .high ≡ highHalf s = ap (λ (x : Halves). x .high) halved in

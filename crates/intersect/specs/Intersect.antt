@@ -23,8 +23,6 @@ use Rattle.segment.specs.declared.frame.Framed.the-variants as framed
 use Rattle.segment.specs.declared.halves.Segment.{Segment}
 use Rattle.segment.specs.declared.leaf.Leaf.{Leaf}
 use Rattle.segment.specs.declared.leaf.Leaf.the-variants.{Passes, Fails, NoFrame}
-use Rattle.intersect.specs.declared.walk.Walked.{Walked}
-use Rattle.intersect.specs.declared.walk.Walked.the-variants as walked
 use Rattle.segment.specs.Depth.{depthOf}
 use Rattle.segment.specs.Frame.{framedCurve}
 use Rattle.segment.specs.Leaf.{leafOf, recordOf}
@@ -121,9 +119,3 @@ intersectOf l o2w w2o reverse r = told Refused (firstOf (intersectRefusals l o2w
 -- of a curve within the limits
 unfoldable pub intersectWithin : Curve → Matrix4x4 → Matrix4x4 → Bool → Ray → Intersection
 intersectWithin c o2w w2o reverse r = told Refused (firstOf (rayRefusals o2w w2o r)) (intersectFramed (framedCurve c o2w w2o reverse r))
-
--- the record is made at the end
-unfoldable pub finished : Context → Walked → Intersection
-finished c (walked.Hit at f n) = Hit (recordOf c at f) n
-finished c (walked.Miss n) = Miss n
-finished c (walked.Refused k) = Refused k

@@ -1,7 +1,8 @@
 // The ray and the flat curve: `intersect` of Curve in src/shapes/curve.rs of pbrt-rust, by its names
 // and in its order of operations. Refusals are numbers, and nothing is asked of a caller.
 ghost use mathlib.Core.Path.{_≡_};
-ghost use Rattle.intersect.specs.Intersect.{rayWithin, finished, intersectSegment, intersectFramed, intersectWithin, intersectOf};
+ghost use Rattle.intersect.specs.Walk.{reached, finished};
+ghost use Rattle.intersect.specs.Intersect.{rayWithin, intersectSegment, intersectFramed, intersectWithin, intersectOf};
 
 mod walk;
 
@@ -13,11 +14,14 @@ use curve::read;
 use geometry::Ray;
 use matrix::Matrix4x4;
 use segment::Context;
+use segment::FOUND;
 use segment::Framed;
 use segment::Segment;
 pub use segment::SurfaceInteraction;
 use segment::context_floats;
+use segment::crossing_in;
 use segment::frame_curve;
+use segment::frame_in;
 use segment::is_whole_thrown;
 use segment::max_depth;
 use segment::record_at;
@@ -46,12 +50,16 @@ fn is_ray_within(r: Ray) -> bool
         & (0.0 <= r.t_max)
 }
 
-fn finish(c: Context, w: Walked) -> Intersection
-    ensures { λ r. ⌜ r ≡ finished c w ⌝ }
+// The reply at the end of a walk that looked at n segments.
+fn finish(c: Context, found: &[f32; FOUND], n: u32, w: Walked) -> Intersection
+    ensures { λ r. ⌜ r ≡ finished c (reached w (now (found .entry)) n) ⌝ }
 {
     match w {
-        Walked::Hit(at, f, n) => Intersection::Hit(record_at(c, at, f), n),
-        Walked::Miss(n) => Intersection::Miss(n),
+        Walked::Hit => {
+            let record = record_at(c, crossing_in(found), frame_in(found));
+            Intersection::Hit(record, n)
+        }
+        Walked::Miss => Intersection::Miss(n),
         Walked::Refused(number) => Intersection::Refused(number),
     }
 }
@@ -64,8 +72,18 @@ fn intersect_segment(c: Context, s: Segment) -> Intersection
     } else {
         let cuts = max_depth(c.curve, s.cp);
         let fixed = context_floats(c);
-        let walked = recursive_intersect(&fixed, c.flip, s, cuts, Walked::Miss(0));
-        finish(c, walked)
+        let mut found = [0.0f32; FOUND];
+        let mut looked = 0u32;
+        let walked = recursive_intersect(
+            &fixed,
+            c.flip,
+            s,
+            cuts,
+            &mut found,
+            &mut looked,
+            Walked::Miss,
+        );
+        finish(c, &found, looked, walked)
     }
 }
 

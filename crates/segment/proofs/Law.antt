@@ -24,6 +24,7 @@ use Rattle.segment.specs.declared.leaf.Framing.the-variants as framing
 use Rattle.segment.specs.declared.leaf.Leaf.{Leaf}
 use Rattle.segment.specs.declared.leaf.Leaf.the-variants.{Passes, Fails, NoFrame}
 use Rattle.segment.specs.Depth.{depthAt, depthOf}
+use Rattle.segment.specs.Found.{vectorFrom, normalFrom, crossingFrom, frameFrom, foundFloats}
 use Rattle.segment.specs.Fixed.{rowAt, matrixAt, rayAt, zmaxFrom, contextFrom, rayFloats, contextFloats}
 use Rattle.segment.specs.Leaf.{isZero, crosswiseOf, outwardOf, withWo, alongOf, withNormal, withDpdv, frameOf, withFraming, leafFrom, withCrossing, crossingOf, leafOf}
 
@@ -33,6 +34,15 @@ use Rattle.segment.specs.Leaf.{isZero, crosswiseOf, outwardOf, withWo, a
 pub context-back : (c : Context) → contextFrom (contextFloats c) (c .flip) ≡ c
 unfolding contextFrom contextFloats zmaxFrom rayAt rayFloats matrixAt rowAt floatsOf flat curveFrom cubicFrom pointFrom
 context-back c = refl
+
+-- nor in those of a crossing and its frame
+pub crossing-back : (at : Crossing) (f : Frame) → crossingFrom (foundFloats at f) ≡ at
+unfolding crossingFrom foundFloats
+crossing-back at f = refl
+
+pub frame-back : (at : Crossing) (f : Frame) → frameFrom (foundFloats at f) ≡ f
+unfolding frameFrom foundFloats vectorFrom normalFrom
+frame-back at f = refl
 
 -- ---- the depth
 

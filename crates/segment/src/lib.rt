@@ -3,6 +3,7 @@
 // of src/shapes/curve.rs of pbrt-rust, by their names and in their order of operations.
 mod depth;
 mod fixed;
+mod found;
 mod frame;
 mod halves;
 mod interaction;
@@ -14,6 +15,10 @@ pub use fixed::context_floats;
 pub use fixed::context_from;
 pub use fixed::curve_in;
 pub use fixed::zmax_in;
+pub use found::FOUND;
+pub use found::crossing_in;
+pub use found::found_floats;
+pub use found::frame_in;
 pub use frame::Context;
 pub use frame::Framed;
 pub use frame::frame_curve;

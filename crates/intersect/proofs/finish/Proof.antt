@@ -1,21 +1,20 @@
--- `intersect::finish` meets its contract: each return rewrites by the facts on its way.
--- Assumes nothing.
+-- `intersect::finish` meets its contract: each return rewrites by the facts on its way. Assumes nothing.
 use borrow.Author.Needs.{needs}
-use Rattle.intersect.specs.Intersect.{finished}
+use Rattle.intersect.specs.Walk.{reached, finished}
 use Rattle.intersect.proofs.finish.Statement.{statement}
 use Rattle.intersect.proofs.finish.Tie as tie
 
 returns : tie.Need-returns
-unfolding finished
-returns c = rw (c .before .before .w .given .1, ← c .record-at .ensures)
+unfolding finished reached
+returns c = rw (c .before .before .before .enum-told .given .1, ← c .before .before .crossing-in .ensures, ← c .before .frame-in .ensures, ← c .record-at .ensures)
 
 returns-2 : tie.Need-returns-2
-unfolding finished
-returns-2 c = rw (c .before .w2 .given .1)
+unfolding finished reached
+returns-2 c = rw (c .enum-told2 .given .1)
 
 returns-3 : tie.Need-returns-3
-unfolding finished
-returns-3 c = rw (c .before .w3 .given .1)
+unfolding finished reached
+returns-3 c = rw (c .before .w .given .1)
 
 pub finish-spec : {M : Type 1} → statement M
-finish-spec = tie.close (tie.spec (λ c. search needs) (λ c κs. tt) (λ c. search needs) (λ c. search needs) returns returns-2 returns-3)
+finish-spec = tie.close (tie.spec (λ c. search needs) (λ c κs. tt) (λ c κs. tt) (λ c κs. tt) (λ c. search needs) (λ c. search needs) returns returns-2 returns-3)

@@ -17,30 +17,29 @@ use Rattle.segment.proofs.zmax_in.Reads as zmax-in-reads
 use Rattle.segment.proofs.run_leaf.Reads as run-leaf-reads
 use Rattle.segment.proofs.halve.Reads as halve-reads
 use Rattle.segment.proofs.is_thrown.Reads as is-thrown-reads
-use Rattle.intersect.proofs.walk.enter.Reads as enter-reads
 use Rattle.intersect.proofs.walk.is_over.Reads as is-over-reads
 use Rattle.intersect.proofs.walk.settle.Reads as settle-reads
-use Rattle.intersect.proofs.Steps.{room-enter, room-low, room-high, half-out, half-in, walk-ends, walk-stops, walk-goes}
+use Rattle.intersect.proofs.Steps.{room-enter, room-low, room-high, half-out, half-in, walk-ends, one-more, over-is, walk-stops, walk-goes}
 use Rattle.intersect.proofs.walk.+half_step+recursive_intersect.{statement}
 use Rattle.intersect.proofs.walk.+half_step+recursive_intersect.Tie.{close}
 
-abbrev μ-half-step : Measures 1 half-step-kinds.ps ℕ
+abbrev μ-half-step : Measures 3 half-step-kinds.ps ℕ
 μ-half-step κs a = 2 * a .1 .1 .1 .0 + 1
 
-abbrev μ-walk : Measures 1 walk-kinds.ps ℕ
+abbrev μ-walk : Measures 3 walk-kinds.ps ℕ
 μ-walk κs a = 2 * a .1 .1 .1 .0
 
-abbrev half-step-at : ℕ → In 1 half-step-kinds.ps
-half-step-at t = and 1 half-step-kinds.ps (is 1 half-step-kinds.ps μ-half-step t) half-step.Pre
+abbrev half-step-at : ℕ → In 3 half-step-kinds.ps
+half-step-at t = and 3 half-step-kinds.ps (is 3 half-step-kinds.ps μ-half-step t) half-step.Pre
 
-abbrev half-step-below : ℕ → In 1 half-step-kinds.ps
-half-step-below t = and 1 half-step-kinds.ps (falls 1 half-step-kinds.ps _<_ μ-half-step t) half-step.Pre
+abbrev half-step-below : ℕ → In 3 half-step-kinds.ps
+half-step-below t = and 3 half-step-kinds.ps (falls 3 half-step-kinds.ps _<_ μ-half-step t) half-step.Pre
 
-abbrev walk-at : ℕ → In 1 walk-kinds.ps
-walk-at t = and 1 walk-kinds.ps (is 1 walk-kinds.ps μ-walk t) walk.Pre
+abbrev walk-at : ℕ → In 3 walk-kinds.ps
+walk-at t = and 3 walk-kinds.ps (is 3 walk-kinds.ps μ-walk t) walk.Pre
 
-abbrev walk-below : ℕ → In 1 walk-kinds.ps
-walk-below t = and 1 walk-kinds.ps (falls 1 walk-kinds.ps _<_ μ-walk t) walk.Pre
+abbrev walk-below : ℕ → In 3 walk-kinds.ps
+walk-below t = and 3 walk-kinds.ps (falls 3 walk-kinds.ps _<_ μ-walk t) walk.Pre
 
 -- what each is told of the functions that it calls
 abbrev half-step-calls : ℕ → half-step-lts.Claims
@@ -48,8 +47,6 @@ half-step-calls t = (curve-in-reads.Asked, curve-in-reads.Learnt, half-width-rea
 
 abbrev walk-calls : ℕ → walk-lts.Claims
 walk-calls t = (
-  enter-reads.Asked,
-  enter-reads.Learnt,
   context-from-reads.Asked,
   context-from-reads.Learnt,
   run-leaf-reads.Asked,
@@ -65,45 +62,53 @@ walk-calls t = (
 )
 
 half-step-walk-requires : (t : ℕ) → half-step-lts.Need-recursive-intersect-requires (half-step-calls t) (half-step-at t) half-step.Post
-half-step-walk-requires t c κs = (omega arith, c .before .before .before .before .before .pre .1)
+half-step-walk-requires t c κs = (omega arith, c .before .before .before .before .before .before .before .pre .1)
 
 half-step-returns : (t : ℕ) → half-step-lts.Need-returns (half-step-calls t) (half-step-at t) half-step.Post
-half-step-returns t c = half-out _ _ _ _ _ _ _ _ _ (c .before .before .before .before .curve-in .ensures) (c .before .before .before .half-width .ensures) (c .before .before .zmax-in .ensures) (c .before .is-thrown .ensures) (c .if1 .taken)
+half-step-returns t c =
+    let tested = c .before in
+    half-out _ _ _ _ _ _ _ _ (tested .before .before .before .curve-in .ensures) (tested .before .before .half-width .ensures) (tested .before .zmax-in .ensures) (tested .is-thrown .ensures) (c .if1 .taken) _
 
 half-step-returns-2 : (t : ℕ) → half-step-lts.Need-returns-2 (half-step-calls t) (half-step-at t) half-step.Post
 half-step-returns-2 t c =
-    let tested = c .before .before in
-    half-in _ _ _ _ _ _ _ _ _ (tested .before .before .before .curve-in .ensures) (tested .before .before .half-width .ensures) (tested .before .zmax-in .ensures) (tested .is-thrown .ensures) (c .before .if1 .left) _ (c .recursive-intersect .ensures)
+    let left = c .before .before .before in
+    let tested = left .before in
+    half-in _ _ _ _ _ _ _ _ (tested .before .before .before .curve-in .ensures) (tested .before .before .half-width .ensures) (tested .before .zmax-in .ensures) (tested .is-thrown .ensures) (left .if1 .left) _ _ (c .recursive-intersect .ensures)
 
-walk-enter-requires : (t : ℕ) → walk-lts.Need-enter-requires (walk-calls t) (walk-at t) walk.Post
-walk-enter-requires t c κs = room-enter _ _ (c .pre .1)
+walk-add-looked : (t : ℕ) → walk-lts.Need-add-looked (walk-calls t) (walk-at t) walk.Post
+walk-add-looked t c = record { fits = room-enter _ _ (c .before .pre .1) }
 
 walk-half-step-requires : (t : ℕ) → walk-lts.Need-half-step-requires (walk-calls t) (walk-at t) walk.Post
-walk-half-step-requires t c κs = (omega arith, room-low _ _ _ (c .before .if1 .left) (c .before .before .before .pre .1) (c .before .before .enter .ensures))
+walk-half-step-requires t c κs =
+    let cut = c .before .before .before in
+    (omega arith, room-low _ _ (cut .if1 .left) (cut .before .before .pre .1))
 
 walk-half-step-requires-2 : (t : ℕ) → walk-lts.Need-half-step-requires-2 (walk-calls t) (walk-at t) walk.Post
 walk-half-step-requires-2 t c κs =
-    let halved = c .before .before .before in
-    (omega arith, room-high _ _ _ _ _ _ (halved .before .if1 .left) (halved .before .before .before .pre .1) (halved .before .before .enter .ensures) (c .before .before .half-step .ensures))
+    let first = c .before .before .before .before .before in
+    let cut = first .before .before .before .before in
+    (omega arith, room-high _ _ _ _ _ _ _ _ _ (cut .if1 .left) (cut .before .before .pre .1) (first .half-step .ensures))
 
 walk-returns : (t : ℕ) → walk-lts.Need-returns (walk-calls t) (walk-at t) walk.Post
 walk-returns t c =
-    let entered = c .before .before .before in
-    walk-ends _ _ _ _ _ _ _ _ _ (entered .if1 .taken) (entered .before .enter .ensures) (c .before .before .context-from .ensures) (c .before .run-leaf .ensures) (c .settle .ensures)
+    let run = c .before .before in
+    walk-ends _ _ _ _ _ _ _ _ _ _ _ (run .before .before .if1 .taken) (run .before .context-from .ensures) (run .run-leaf .ensures) (c .settle .ensures)
 
 walk-returns-2 : (t : ℕ) → walk-lts.Need-returns-2 (walk-calls t) (walk-at t) walk.Post
 walk-returns-2 t c =
-    let halved = c .before .before .before in
-    walk-stops _ _ _ _ _ _ _ _ (halved .before .if1 .left) (halved .before .before .enter .ensures) (halved .halve .ensures) (c .before .before .half-step .ensures) (c .before .is-over .ensures) (c .if2 .taken)
+    let first = c .before .before .before in
+    let halved = first .before .before .before in
+    walk-stops _ _ _ _ _ _ _ _ (halved .before .if1 .left) (one-more _ _ _) (halved .halve .ensures) (first .half-step .ensures) (over-is _ _ _ _ (c .before .is-over .ensures)) (c .if2 .taken)
 
 walk-returns-3 : (t : ℕ) → walk-lts.Need-returns-3 (walk-calls t) (walk-at t) walk.Post
 walk-returns-3 t c =
-    let tested = c .before in
-    let halved = tested .before .before .before in
-    walk-goes _ _ _ _ _ _ _ _ (halved .before .if1 .left) (halved .before .before .enter .ensures) (halved .halve .ensures) (tested .before .before .half-step .ensures) (tested .before .is-over .ensures) (tested .if2 .left) _ (c .half-step2 .ensures)
+    let tested = c .before .before .before in
+    let first = tested .before .before .before in
+    let halved = first .before .before .before in
+    walk-goes _ _ _ _ _ _ _ _ (halved .before .if1 .left) (one-more _ _ _) (halved .halve .ensures) (first .half-step .ensures) (over-is _ _ _ _ (tested .before .is-over .ensures)) (tested .if2 .left) _ (c .half-step2 .ensures)
 
 pub +half-step+recursive-intersect-spec : {M : Type 1} → statement M
 +half-step+recursive-intersect-spec =
     close μ-half-step μ-walk
     (λ t. half-step-lts.spec (half-step-calls t) (half-step-at t) half-step.Post (λ c κs. tt) (λ c κs. tt) (λ c κs. tt) (λ c κs. tt) (half-step-walk-requires t) (half-step-returns t) (half-step-returns-2 t))
-    (λ t. walk-lts.spec (walk-calls t) (walk-at t) walk.Post (walk-enter-requires t) (λ c κs. tt) (λ c κs. tt) (λ c κs. tt) (λ c κs. tt) (λ c. omega arith) (walk-half-step-requires t) (λ c κs. tt) (λ c. omega arith) (walk-half-step-requires-2 t) (walk-returns t) (walk-returns-2 t) (walk-returns-3 t))
+    (λ t. walk-lts.spec (walk-calls t) (walk-at t) walk.Post (walk-add-looked t) (λ c κs. tt) (λ c κs. tt) (λ c κs. tt) (λ c κs. tt) (λ c. omega arith) (walk-half-step-requires t) (λ c κs. tt) (λ c. omega arith) (walk-half-step-requires-2 t) (walk-returns t) (walk-returns-2 t) (walk-returns-3 t))
