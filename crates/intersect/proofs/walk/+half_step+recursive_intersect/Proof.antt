@@ -76,7 +76,7 @@ half-step-returns-2 t c =
     half-in _ _ _ _ _ _ _ _ (tested .before .before .before .curve-in .ensures) (tested .before .before .half-width .ensures) (tested .before .zmax-in .ensures) (tested .is-thrown .ensures) (left .if1 .left) _ _ (c .recursive-intersect .ensures)
 
 walk-add-looked : (t : ℕ) → walk-lts.Need-add-looked (walk-calls t) (walk-at t) walk.Post
-walk-add-looked t c = record { fits = room-enter _ _ (c .before .pre .1) }
+walk-add-looked t c = record { fits = omega (arith, room-enter _ _ (c .before .pre .1)) }
 
 walk-half-step-requires : (t : ℕ) → walk-lts.Need-half-step-requires (walk-calls t) (walk-at t) walk.Post
 walk-half-step-requires t c κs =
