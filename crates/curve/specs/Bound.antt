@@ -12,6 +12,8 @@ use Rattle.matrix.specs.declared.Matrix4x4.{Matrix4x4}
 use Rattle.transform.specs.Bounds.{transformBounds}
 use Rattle.transform.specs.declared.bounds.TransformedBounds.{TransformedBounds}
 use Rattle.transform.specs.declared.bounds.TransformedBounds.the-variants as transformed
+use Rattle.curve.specs.Axis.{leastIn, greatestIn}
+use Rattle.curve.specs.declared.axis.Axis.{Axis}
 use Rattle.curve.specs.Curve.{within, isCurve, curveFrom, controlPoints, widthAt}
 use Rattle.curve.specs.Refusal.{Table, firstOf, told}
 use Rattle.curve.specs.declared.curve.Curve.{Curve}
@@ -28,6 +30,10 @@ boundOf c =
     let p = controlPoints c in
     let b = union (boundsOf (p .p0) (p .p1)) (boundsOf (p .p2) (p .p3)) in
     expanded b (maxOf (widthAt c (c .umin)) (widthAt c (c .umax)) ⊗ half)
+
+-- for functions inside: the box by coordinates
+unfoldable pub boundIn : Axis → Axis → Axis → Bounds3f
+boundIn x y z = record { «p_min» = record { x = leastIn x; y = leastIn y; z = leastIn z }; «p_max» = record { x = greatestIn x; y = greatestIn y; z = greatestIn z } }
 
 -- 9
 unfoldable pub curveRefusals : List Float → Table

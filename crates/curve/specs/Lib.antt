@@ -1,3 +1,4 @@
+pub mod Axis
 pub mod Basis
 pub mod Bezier
 pub mod Bound

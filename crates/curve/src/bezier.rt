@@ -1,6 +1,6 @@
-// Cubic Bezier curves: blossom_bezier, subdivide_bezier and eval_bezier of src/shapes/curve.rs.
+// Cubic Bezier curves: subdivide_bezier and eval_bezier of src/shapes/curve.rs.
 ghost use mathlib.Core.Path.{_≡_};
-ghost use Rattle.curve.specs.Bezier.{blossomOf, halfOf, quarterOf, eighthOf, splitOf, derivativeOf, evalOf};
+ghost use Rattle.curve.specs.Bezier.{halfOf, quarterOf, eighthOf, splitOf, derivativeOf, evalOf};
 use geometry::Point3f;
 use geometry::Vector3f;
 
@@ -10,17 +10,6 @@ pub struct Cubic {
     pub p1: Point3f,
     pub p2: Point3f,
     pub p3: Point3f,
-}
-
-pub fn blossom_bezier(p: Cubic, u0: f32, u1: f32, u2: f32) -> Point3f
-    ensures { λ r. ⌜ r ≡ blossomOf p u0 u1 u2 ⌝ }
-{
-    let a0 = Point3f::lerp(u0, p.p0, p.p1);
-    let a1 = Point3f::lerp(u0, p.p1, p.p2);
-    let a2 = Point3f::lerp(u0, p.p2, p.p3);
-    let b0 = Point3f::lerp(u1, a0, a1);
-    let b1 = Point3f::lerp(u1, a1, a2);
-    Point3f::lerp(u2, b0, b1)
 }
 
 fn half(a: Point3f, b: Point3f) -> Point3f

@@ -3,9 +3,10 @@
 ghost use mathlib.Core.Path.{_≡_};
 ghost use Prim.Native.Nat.{_+_, _≤_};
 ghost use lib.ListN.{length};
-ghost use Rattle.curve.specs.Curve.{floats, pointFrom, cubicFrom, curveFrom, floatsOf, within, pointWithin, cubicWithin, widthWithin, inLimits, readOf, controlPoints, widthAt};
+ghost use Rattle.curve.specs.Curve.{floats, pointFrom, cubicFrom, curveFrom, floatsOf, within, pointWithin, cubicWithin, widthWithin, inLimits, isCurve, readOf, controlPoints, widthAt};
+use crate::axis::axis_of;
+use crate::axis::part;
 use crate::bezier::Cubic;
-use crate::bezier::blossom_bezier;
 use geometry::Point3f;
 use geometry::lerp;
 
@@ -102,31 +103,66 @@ pub enum Reading {
     OffLimits,
 }
 
+pub fn is_curve(s: &[f32]) -> bool
+    ensures { λ r. ⌜ r ≡ isCurve (now (s .entry)) ⌝ }
+{
+    if s.len() == FLOATS {
+        is_in_limits(curve_from(s))
+    } else {
+        false
+    }
+}
+
 pub fn read(s: &[f32]) -> Reading
     ensures { λ r. ⌜ r ≡ readOf (now (s .entry)) ⌝ }
 {
-    if s.len() == FLOATS {
-        let c = curve_from(s);
-        if is_in_limits(c) {
-            Reading::Curve(c)
-        } else {
-            Reading::OffLimits
-        }
+    if is_curve(s) {
+        Reading::Curve(curve_from(s))
     } else {
         Reading::OffLimits
     }
 }
 
-// The control points of the part from umin to umax, by four blossoms: the Rust's cpobj.
+// The control points of the part from umin to umax: the Rust's cpobj.
 pub fn control_points(c: Curve) -> Cubic
     ensures { λ r. ⌜ r ≡ controlPoints c ⌝ }
 {
-    Cubic {
-        p0: blossom_bezier(c.cp, c.umin, c.umin, c.umin),
-        p1: blossom_bezier(c.cp, c.umin, c.umin, c.umax),
-        p2: blossom_bezier(c.cp, c.umin, c.umax, c.umax),
-        p3: blossom_bezier(c.cp, c.umax, c.umax, c.umax),
-    }
+    let x = part(
+        axis_of(c.cp.p0.x, c.cp.p1.x, c.cp.p2.x, c.cp.p3.x),
+        c.umin,
+        c.umax,
+    );
+    let y = part(
+        axis_of(c.cp.p0.y, c.cp.p1.y, c.cp.p2.y, c.cp.p3.y),
+        c.umin,
+        c.umax,
+    );
+    let z = part(
+        axis_of(c.cp.p0.z, c.cp.p1.z, c.cp.p2.z, c.cp.p3.z),
+        c.umin,
+        c.umax,
+    );
+    let p0 = Point3f {
+        x: x.p0,
+        y: y.p0,
+        z: z.p0,
+    };
+    let p1 = Point3f {
+        x: x.p1,
+        y: y.p1,
+        z: z.p1,
+    };
+    let p2 = Point3f {
+        x: x.p2,
+        y: y.p2,
+        z: z.p2,
+    };
+    let p3 = Point3f {
+        x: x.p3,
+        y: y.p3,
+        z: z.p3,
+    };
+    Cubic { p0, p1, p2, p3 }
 }
 
 pub fn width_at(c: Curve, u: f32) -> f32

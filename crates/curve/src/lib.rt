@@ -1,5 +1,6 @@
 // Flat curves: src/shapes/curve.rs of pbrt-rust, by its names and in its order of operations. A curve
 // is lent as a slice of floats and tested, refusals are numbers, and nothing is asked of a caller.
+mod axis;
 mod basis;
 mod bezier;
 mod bound;
@@ -10,7 +11,6 @@ mod refusal;
 pub use bezier::Cubic;
 pub use bezier::Eval;
 pub use bezier::Split;
-pub use bezier::blossom_bezier;
 pub use bezier::eval_bezier;
 pub use bezier::subdivide_bezier;
 pub use bound::Bound;

@@ -1,5 +1,4 @@
--- `curve::basis::cubic_spline` meets its contract: each return rewrites by the facts on its way.
--- Assumes nothing.
+-- `curve::basis::cubic_spline` meets its contract: each return rewrites by the facts on its way. Assumes nothing.
 use Rattle.curve.specs.Basis.{cubicSpline}
 use Rattle.curve.proofs.basis.cubic_spline.Statement.{statement}
 use Rattle.curve.proofs.basis.cubic_spline.Tie as tie

@@ -1,5 +1,4 @@
--- `curve::basis::elevate` meets its contract: each return rewrites by the facts on its way.
--- Assumes nothing.
+-- `curve::basis::elevate` meets its contract: each return rewrites by the facts on its way. Assumes nothing.
 use Rattle.curve.specs.Basis.{elevated}
 use Rattle.curve.proofs.basis.elevate.Statement.{statement}
 use Rattle.curve.proofs.basis.elevate.Tie as tie

@@ -1,5 +1,4 @@
--- `curve::basis::quadratic_spline` meets its contract: each return rewrites by the facts on its way.
--- Assumes nothing.
+-- `curve::basis::quadratic_spline` meets its contract: each return rewrites by the facts on its way. Assumes nothing.
 use Rattle.curve.specs.Basis.{quadraticSpline}
 use Rattle.curve.proofs.basis.quadratic_spline.Statement.{statement}
 use Rattle.curve.proofs.basis.quadratic_spline.Tie as tie

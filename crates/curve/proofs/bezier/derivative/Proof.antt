@@ -1,5 +1,4 @@
--- `curve::bezier::derivative` meets its contract: each return rewrites by the facts on its way.
--- Assumes nothing.
+-- `curve::bezier::derivative` meets its contract: each return rewrites by the facts on its way. Assumes nothing.
 use Rattle.curve.specs.Bezier.{derivativeOf}
 use Rattle.curve.proofs.bezier.derivative.Statement.{statement}
 use Rattle.curve.proofs.bezier.derivative.Tie as tie

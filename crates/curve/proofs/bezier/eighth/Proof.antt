@@ -1,5 +1,4 @@
--- `curve::bezier::eighth` meets its contract: each return rewrites by the facts on its way.
--- Assumes nothing.
+-- `curve::bezier::eighth` meets its contract: each return rewrites by the facts on its way. Assumes nothing.
 use Rattle.curve.specs.Bezier.{eighthOf}
 use Rattle.curve.proofs.bezier.eighth.Statement.{statement}
 use Rattle.curve.proofs.bezier.eighth.Tie as tie

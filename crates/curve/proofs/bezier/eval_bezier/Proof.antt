@@ -1,5 +1,4 @@
--- `curve::bezier::eval_bezier` meets its contract: each return rewrites by the facts on its way.
--- Assumes nothing.
+-- `curve::bezier::eval_bezier` meets its contract: each return rewrites by the facts on its way. Assumes nothing.
 use Rattle.curve.specs.Bezier.{evalOf}
 use Rattle.curve.proofs.bezier.eval_bezier.Statement.{statement}
 use Rattle.curve.proofs.bezier.eval_bezier.Tie as tie

@@ -1,5 +1,4 @@
--- `curve::bezier::half` meets its contract: each return rewrites by the facts on its way.
--- Assumes nothing.
+-- `curve::bezier::half` meets its contract: each return rewrites by the facts on its way. Assumes nothing.
 use Rattle.curve.specs.Bezier.{halfOf}
 use Rattle.curve.proofs.bezier.half.Statement.{statement}
 use Rattle.curve.proofs.bezier.half.Tie as tie

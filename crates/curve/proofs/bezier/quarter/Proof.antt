@@ -1,5 +1,4 @@
--- `curve::bezier::quarter` meets its contract: each return rewrites by the facts on its way.
--- Assumes nothing.
+-- `curve::bezier::quarter` meets its contract: each return rewrites by the facts on its way. Assumes nothing.
 use Rattle.curve.specs.Bezier.{quarterOf}
 use Rattle.curve.proofs.bezier.quarter.Statement.{statement}
 use Rattle.curve.proofs.bezier.quarter.Tie as tie

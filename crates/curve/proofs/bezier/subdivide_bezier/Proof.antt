@@ -1,5 +1,4 @@
--- `curve::bezier::subdivide_bezier` meets its contract: each return rewrites by the facts on its way.
--- Assumes nothing.
+-- `curve::bezier::subdivide_bezier` meets its contract: each return rewrites by the facts on its way. Assumes nothing.
 use Rattle.curve.specs.Bezier.{splitOf}
 use Rattle.curve.proofs.bezier.subdivide_bezier.Statement.{statement}
 use Rattle.curve.proofs.bezier.subdivide_bezier.Tie as tie

@@ -1,5 +1,4 @@
--- `curve::bound::is_matrix_within` meets its contract: each return rewrites by the facts on its way.
--- Assumes nothing.
+-- `curve::bound::is_matrix_within` meets its contract: each return rewrites by the facts on its way. Assumes nothing.
 use Rattle.curve.specs.Bound.{matrixWithin}
 use Rattle.curve.proofs.bound.is_matrix_within.Statement.{statement}
 use Rattle.curve.proofs.bound.is_matrix_within.Tie as tie

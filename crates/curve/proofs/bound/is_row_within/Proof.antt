@@ -1,5 +1,4 @@
--- `curve::bound::is_row_within` meets its contract: each return rewrites by the facts on its way.
--- Assumes nothing.
+-- `curve::bound::is_row_within` meets its contract: each return rewrites by the facts on its way. Assumes nothing.
 use Rattle.curve.specs.Bound.{rowWithin}
 use Rattle.curve.proofs.bound.is_row_within.Statement.{statement}
 use Rattle.curve.proofs.bound.is_row_within.Tie as tie

@@ -1,8 +1,7 @@
--- `curve::bound::world_bound_of` meets its contract: each return rewrites by the facts on its way.
--- Assumes nothing.
+-- `curve::bound::world_bound_of` meets its contract: each return rewrites by the facts on its way. Assumes nothing.
 use borrow.Author.Needs.{needs}
-use Rattle.curve.specs.Bound.{worldBoundOf}
 use Rattle.curve.specs.Refusal.{firstOf}
+use Rattle.curve.specs.Bound.{worldBoundOf}
 use Rattle.curve.proofs.bound.world_bound_of.Statement.{statement}
 use Rattle.curve.proofs.bound.world_bound_of.Tie as tie
 
@@ -19,4 +18,4 @@ unfolding worldBoundOf firstOf
 returns-3 c = rw (← c .before .is-matrix-within .ensures, c .if1 .left)
 
 pub world-bound-of-spec : {M : Type 1} → statement M
-world-bound-of-spec = tie.close (tie.spec (λ c κs. tt) (λ c κs. tt) (λ c κs. tt) (λ c. search needs) (λ c. search needs) returns returns-2 returns-3)
+world-bound-of-spec = tie.close (tie.spec (λ c κs. tt) (λ c κs. search needs) (λ c κs. search needs) (λ c. search needs) (λ c. search needs) returns returns-2 returns-3)

@@ -1,5 +1,4 @@
--- `curve::create::end_width` meets its contract: each return rewrites by the facts on its way.
--- Assumes nothing.
+-- `curve::create::end_width` meets its contract: each return rewrites by the facts on its way. Assumes nothing.
 use Rattle.curve.specs.Create.{endWidth}
 use Rattle.curve.proofs.create.end_width.Statement.{statement}
 use Rattle.curve.proofs.create.end_width.Tie as tie

@@ -1,5 +1,4 @@
--- `curve::create::put_segment` meets its contract: each return rewrites by the facts on its way.
--- Assumes nothing.
+-- `curve::create::put_segment` meets its contract: each return rewrites by the facts on its way. Assumes nothing.
 use borrow.Author.Needs.{needs}
 use Rattle.curve.specs.Create.{segmentFloats}
 use Rattle.curve.proofs.create.put_segment.Statement.{statement}

@@ -1,5 +1,4 @@
--- `curve::create::quotient` meets its contract: each return rewrites by the facts on its way.
--- Assumes nothing.
+-- `curve::create::quotient` meets its contract: each return rewrites by the facts on its way. Assumes nothing.
 use mathlib.Core.Path.{refl}
 use borrow.Author.Needs.{needs}
 use Rattle.curve.specs.Create.{ratio}

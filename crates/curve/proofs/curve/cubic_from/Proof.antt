@@ -1,5 +1,4 @@
--- `curve::curve::cubic_from` meets its contract: each return rewrites by the facts on its way.
--- Assumes nothing.
+-- `curve::curve::cubic_from` meets its contract: each return rewrites by the facts on its way. Assumes nothing.
 use borrow.Author.Needs.{needs}
 use Rattle.curve.specs.Curve.{cubicFrom}
 use Rattle.curve.proofs.curve.cubic_from.Statement.{statement}

@@ -1,5 +1,4 @@
--- `curve::curve::curve_from` meets its contract: each return rewrites by the facts on its way.
--- Assumes nothing.
+-- `curve::curve::curve_from` meets its contract: each return rewrites by the facts on its way. Assumes nothing.
 use borrow.Author.Needs.{needs}
 use Rattle.curve.specs.Curve.{curveFrom}
 use Rattle.curve.proofs.curve.curve_from.Statement.{statement}

@@ -1,5 +1,4 @@
--- `curve::curve::floats_of` meets its contract: each return rewrites by the facts on its way.
--- Assumes nothing.
+-- `curve::curve::floats_of` meets its contract: each return rewrites by the facts on its way. Assumes nothing.
 use mathlib.Core.Path.{refl}
 use Rattle.curve.specs.Curve.{floatsOf}
 use Rattle.curve.proofs.curve.floats_of.Statement.{statement}

@@ -1,5 +1,4 @@
--- `curve::curve::is_cubic_within` meets its contract: each return rewrites by the facts on its way.
--- Assumes nothing.
+-- `curve::curve::is_cubic_within` meets its contract: each return rewrites by the facts on its way. Assumes nothing.
 use Rattle.curve.specs.Curve.{cubicWithin}
 use Rattle.curve.proofs.curve.is_cubic_within.Statement.{statement}
 use Rattle.curve.proofs.curve.is_cubic_within.Tie as tie

@@ -1,5 +1,4 @@
--- `curve::curve::is_in_limits` meets its contract: each return rewrites by the facts on its way.
--- Assumes nothing.
+-- `curve::curve::is_in_limits` meets its contract: each return rewrites by the facts on its way. Assumes nothing.
 use Rattle.curve.specs.Curve.{inLimits}
 use Rattle.curve.proofs.curve.is_in_limits.Statement.{statement}
 use Rattle.curve.proofs.curve.is_in_limits.Tie as tie

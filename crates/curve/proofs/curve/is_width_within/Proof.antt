@@ -1,5 +1,4 @@
--- `curve::curve::is_width_within` meets its contract: each return rewrites by the facts on its way.
--- Assumes nothing.
+-- `curve::curve::is_width_within` meets its contract: each return rewrites by the facts on its way. Assumes nothing.
 use mathlib.Core.Path.{refl}
 use Rattle.curve.specs.Curve.{widthWithin}
 use Rattle.curve.proofs.curve.is_width_within.Statement.{statement}

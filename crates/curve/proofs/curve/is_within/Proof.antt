@@ -1,5 +1,4 @@
--- `curve::curve::is_within` meets its contract: each return rewrites by the facts on its way.
--- Assumes nothing.
+-- `curve::curve::is_within` meets its contract: each return rewrites by the facts on its way. Assumes nothing.
 use Rattle.curve.specs.Curve.{within}
 use Rattle.curve.proofs.curve.is_within.Statement.{statement}
 use Rattle.curve.proofs.curve.is_within.Tie as tie

@@ -1,5 +1,4 @@
--- `curve::curve::width_at` meets its contract: each return rewrites by the facts on its way.
--- Assumes nothing.
+-- `curve::curve::width_at` meets its contract: each return rewrites by the facts on its way. Assumes nothing.
 use Rattle.curve.specs.Curve.{widthAt}
 use Rattle.curve.proofs.curve.width_at.Statement.{statement}
 use Rattle.curve.proofs.curve.width_at.Tie as tie

@@ -1,5 +1,4 @@
--- `curve::refusal::is_limit_wrong` meets its contract: each return rewrites by the facts on its way.
--- Assumes nothing.
+-- `curve::refusal::is_limit_wrong` meets its contract: each return rewrites by the facts on its way. Assumes nothing.
 use Rattle.curve.specs.Create.{limitWrong}
 use Rattle.curve.proofs.refusal.is_limit_wrong.Statement.{statement}
 use Rattle.curve.proofs.refusal.is_limit_wrong.Tie as tie

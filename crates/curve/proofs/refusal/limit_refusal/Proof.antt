@@ -1,5 +1,4 @@
--- `curve::refusal::limit_refusal` meets its contract: each return rewrites by the facts on its way.
--- Assumes nothing.
+-- `curve::refusal::limit_refusal` meets its contract: each return rewrites by the facts on its way. Assumes nothing.
 use borrow.Author.Needs.{needs}
 use borrow.Author.Tests.{le-ltb, lt-ltb}
 use Rattle.curve.specs.Create.{limitRefusals}

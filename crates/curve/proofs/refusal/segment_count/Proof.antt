@@ -1,5 +1,4 @@
--- `curve::refusal::segment_count` meets its contract: each return rewrites by the facts on its way.
--- Assumes nothing.
+-- `curve::refusal::segment_count` meets its contract: each return rewrites by the facts on its way. Assumes nothing.
 use borrow.Author.Needs.{needs}
 use borrow.Author.Tests.{eq-eqb, ne-eqb}
 use Rattle.curve.specs.Create.{segmentCount}
