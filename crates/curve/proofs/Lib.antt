@@ -8,3 +8,4 @@ mod Created
 mod Lengths
 mod Limits
 mod Within
+mod Both

@@ -62,7 +62,7 @@ fn curve_from(s: &[f32]) -> Curve
 pub fn is_within(x: f32, limit: f32) -> bool
     ensures { λ r. ⌜ r ≡ within x limit ⌝ }
 {
-    float::abs(x) <= limit
+    (-limit <= x) & (x <= limit)
 }
 
 fn is_point_within(p: Point3f, limit: f32) -> bool
