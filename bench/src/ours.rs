@@ -1,42 +1,14 @@
-//! The library's C functions, as include/curve.h has them, and how they are timed.
+//! The library's C functions, and how they are timed.
 
 use crate::draw::{Beam, Belt, Matrix, Piece};
+use declared::*;
 use std::hint::black_box;
 use std::time::{Duration, Instant};
 
-extern "C" {
-    fn curve_create(
-        points: *const f32,
-        len: usize,
-        degree: u32,
-        basis: u32,
-        ty: u32,
-        width0: f32,
-        width1: f32,
-        splitdepth: u32,
-        list: *mut f32,
-        list_len: usize,
-        pieces: *mut u32,
-    ) -> u32;
-    fn curve_object_bound(piece: *const f32, len: usize, out: *mut [f32; 6]) -> u32;
-    fn curve_world_bound(
-        piece: *const f32,
-        len: usize,
-        object_to_world: *const Matrix,
-        out: *mut [f32; 6],
-    ) -> u32;
-    fn curve_area(piece: *const f32, len: usize, out: *mut f32) -> u32;
-    fn curve_intersect(
-        piece: *const f32,
-        len: usize,
-        object_to_world: *const Matrix,
-        world_to_object: *const Matrix,
-        reverse: u32,
-        ray: *const [f32; 8],
-        record: *mut [f32; 22],
-        looked: *mut u32,
-    ) -> u32;
-}
+// The sheet is timed through the program, so its function is not called here.
+#[allow(dead_code)]
+#[path = "../../bindings/rust/src/declared.rs"]
+mod declared;
 
 pub const LIST: usize = 16 * 1024;
 

@@ -1,51 +1,10 @@
-//! The calls of the static library, as include/curve.h declares them. All that is unsafe is here.
+//! The calls of the static library. All that is unsafe is here.
 //!
 //! Each function answers the library's number first, 0 or a refusal (1 is a miss in `intersect`), and then
 //! what the library wrote, which means something only with the numbers that the header names.
 
+use crate::declared::*;
 use crate::Params;
-
-extern "C" {
-    fn curve_create(
-        points: *const f32,
-        len: usize,
-        degree: u32,
-        basis: u32,
-        ty: u32,
-        width0: f32,
-        width1: f32,
-        splitdepth: u32,
-        list: *mut f32,
-        list_len: usize,
-        pieces: &mut u32,
-    ) -> u32;
-    fn curve_object_bound(piece: *const f32, len: usize, out: &mut [f32; 6]) -> u32;
-    fn curve_world_bound(
-        piece: *const f32,
-        len: usize,
-        object_to_world: &[f32; 16],
-        out: &mut [f32; 6],
-    ) -> u32;
-    fn curve_area(piece: *const f32, len: usize, out: &mut f32) -> u32;
-    fn curve_intersect(
-        piece: *const f32,
-        len: usize,
-        object_to_world: &[f32; 16],
-        world_to_object: &[f32; 16],
-        reverse: u32,
-        ray: &[f32; 8],
-        record: &mut [f32; 22],
-        looked: &mut u32,
-    ) -> u32;
-    fn curve_sheet(
-        bytes: *const u8,
-        len: usize,
-        list: *mut f32,
-        list_len: usize,
-        beams: &mut [f32; 512],
-        out: &mut [u32; 4],
-    ) -> u32;
-}
 
 /// The number of pieces goes with 0.
 pub fn create(points: &[f32], params: &Params, list: &mut [f32]) -> (u32, u32) {

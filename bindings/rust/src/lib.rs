@@ -45,6 +45,8 @@
 #![warn(missing_docs)]
 
 #[allow(unsafe_code)]
+mod declared;
+#[allow(unsafe_code)]
 mod ffi;
 mod refusal;
 
