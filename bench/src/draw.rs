@@ -4,7 +4,11 @@
 
 use crate::ours::{self, Answer};
 use crate::vector::{cross, difference, length, normal, scaled, sum, Vector};
+use cubic::at;
 use std::sync::Arc;
+
+#[path = "../../oracle/src/cubic.rs"]
+mod cubic;
 
 /// Four points, two widths, umin, umax.
 pub type Piece = [f32; 16];
@@ -312,22 +316,6 @@ fn aimed(rng: &mut Rng, piece: Piece, place: &Arc<Place>, beside: f64) -> Beam {
         reverse: rng.below(2) == 0,
         ray: world,
     }
-}
-
-/// The curve's point and tangent at u.
-fn at(piece: &Piece, u: f64) -> (Vector, Vector) {
-    let s = 1.0 - u;
-    let p = |i: usize, k: usize| piece[3 * i + k] as f64;
-    let point = |k| {
-        let ends = s * s * s * p(0, k) + u * u * u * p(3, k);
-        ends + 3.0 * s * u * (s * p(1, k) + u * p(2, k))
-    };
-    let tangent = |k| {
-        let [a, b, c] = [0, 1, 2].map(|i| p(i + 1, k) - p(i, k));
-        s * s * a + 2.0 * s * u * b + u * u * c
-    };
-
-    (std::array::from_fn(point), std::array::from_fn(tangent))
 }
 
 /// A point with the weight 1, or a vector with 0.

@@ -12,9 +12,13 @@ use pbrt::core::paramset::ParamSet;
 use pbrt::core::shape::{Shape, Shapes};
 use pbrt::core::transform::{Matrix4x4, Transform};
 use pbrt::shapes::curve::{self, Curve, CurveCommon, CurveType};
+use record::record;
 use std::hint::black_box;
 use std::sync::Arc;
 use std::time::{Duration, Instant};
+
+#[path = "../../oracle/src/record.rs"]
+mod record;
 
 /// A curve and a ray at it.
 pub struct Aimed {
@@ -101,25 +105,6 @@ impl Aimed {
         self.shape
             .intersect(&ray, t, isect, false, Some(self.shape.clone()))
     }
-}
-
-fn record(t: f32, isect: &SurfaceInteraction) -> [f32; 22] {
-    let SurfaceInteraction {
-        p,
-        time,
-        p_error,
-        wo,
-        n,
-        uv,
-        dpdu,
-        dpdv,
-        ..
-    } = isect;
-
-    [
-        t, uv.x, uv.y, p.x, p.y, p.z, p_error.x, p_error.y, p_error.z, *time, wo.x, wo.y, wo.z,
-        n.x, n.y, n.z, dpdu.x, dpdu.y, dpdu.z, dpdv.x, dpdv.y, dpdv.z,
-    ]
 }
 
 pub fn corners(bounds: Bounds3f) -> [f32; 6] {

@@ -4,6 +4,7 @@ use crate::flat;
 use crate::kinds::curve_of;
 use crate::limits;
 use crate::panics::{self, Site};
+use crate::record::{record, Record};
 use crate::words::{put, text, Reader, Words};
 use pbrt::core::geometry::point::Point3f;
 use pbrt::core::geometry::ray::Ray;
@@ -24,9 +25,6 @@ pub struct Beam {
     /// Origin, direction, t_max, time.
     pub ray: [f32; 8],
 }
-
-/// t, u, v, p, error, time, wo, n, dpdu, dpdv.
-pub type Record = [f32; 22];
 
 /// 01's answer: with a hit and a miss goes the count.
 pub enum Reply {
@@ -149,23 +147,4 @@ fn refusal() -> u32 {
         (Phase::Record, Some(Site::Vector)) => 16,
         place => panic!("not a refusal of 01: {place:?}"),
     }
-}
-
-fn record(t: f32, isect: &SurfaceInteraction) -> Record {
-    let SurfaceInteraction {
-        p,
-        time,
-        p_error,
-        wo,
-        n,
-        uv,
-        dpdu,
-        dpdv,
-        ..
-    } = isect;
-
-    [
-        t, uv.x, uv.y, p.x, p.y, p.z, p_error.x, p_error.y, p_error.z, *time, wo.x, wo.y, wo.z,
-        n.x, n.y, n.z, dpdu.x, dpdu.y, dpdu.z, dpdv.x, dpdv.y, dpdv.z,
-    ]
 }

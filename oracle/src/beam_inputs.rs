@@ -2,6 +2,7 @@
 //! or one refusal, a few are left to chance.
 
 use crate::beam::{transform, Beam, Reply};
+use crate::cubic;
 use crate::curve_inputs::{parameters, spoil_piece, valid_piece, Piece, ENTRY, PIECE};
 use crate::flat;
 use crate::inputs::{identity, matrix, permutation, placement, Matrix, Triple};
@@ -201,21 +202,12 @@ fn place(rng: &mut Rng, piece: &Piece) -> Place {
                 2 => 0.5,
                 _ => rng.unit().abs() as f64,
             };
-    let s = 1.0 - u;
-    let p = |i: usize, k: usize| piece[3 * i + k] as f64;
-    let point = |k| {
-        let ends = s * s * s * p(0, k) + u * u * u * p(3, k);
-        ends + 3.0 * s * u * (s * p(1, k) + u * p(2, k))
-    };
-    let tangent = |k| {
-        let [a, b, c] = [0, 1, 2].map(|i| p(i + 1, k) - p(i, k));
-        s * s * a + 2.0 * s * u * b + u * u * c
-    };
+    let (point, tangent) = cubic::at(piece, u);
 
     Place {
-        point: std::array::from_fn(point),
-        tangent: std::array::from_fn(tangent),
-        half: 0.5 * (piece[12] as f64 * s + piece[13] as f64 * u),
+        point,
+        tangent,
+        half: 0.5 * (piece[12] as f64 * (1.0 - u) + piece[13] as f64 * u),
     }
 }
 

@@ -1,7 +1,8 @@
 //! A second reading of 01's beam: "Depth", "Cutting and walking" and "Hit" as they stand there, over all
 //! pieces by level and number, and not as the Rust recurses. Only the frame's tools are the Rust's.
 
-use crate::beam::{transform, Beam, Record, Reply};
+use crate::beam::{transform, Beam, Reply};
+use crate::record::Record;
 use pbrt::core::geometry::point::Point3f;
 use pbrt::core::geometry::ray::Ray;
 use pbrt::core::geometry::vector::{vec3_coordinate_system, Vector3f};

@@ -2,12 +2,14 @@
 
 pub mod beam;
 pub mod beam_inputs;
+pub mod cubic;
 pub mod curve_inputs;
 pub mod flat;
 pub mod inputs;
 pub mod kinds;
 pub mod limits;
 pub mod panics;
+pub mod record;
 pub mod rng;
 pub mod shares;
 pub mod sheet;

@@ -1,19 +1,26 @@
 -- What a returned number means: 0 is an answer and never a refusal, and of curve_intersect neither is 1. Assumes nothing.
 use mathlib.Core.Bool.{Bool, true, false, cond, not, _&&_}
 use mathlib.Core.List.{List}
-use mathlib.Core.Path.{_≡_, refl}
+use mathlib.Core.Path.{_≡_, refl, sym, ap, _∙_}
 use Prim.Native.Nat.{ℕ, zero, suc, _/_, _≤_}
 use native.Mathlib.Omega.{arith}
-use lib.Dec.{lit≤}
+use lib.Dec.{ltb, lit≤}
 use lib.Ieee.{Float}
 use lib.ListN.{length}
+use Rattle.geometry.specs.declared.bounds.Bounds3f.{Bounds3f}
 use Rattle.geometry.specs.declared.ray.Ray.{Ray}
 use Rattle.matrix.specs.declared.Matrix4x4.{Matrix4x4}
 use Rattle.matrix.specs.Matrix.{matrixFrom}
+use Rattle.transform.specs.Bounds.{transformBounds}
+use Rattle.transform.specs.declared.bounds.TransformedBounds.{TransformedBounds}
+use Rattle.transform.specs.declared.bounds.TransformedBounds.the-variants as transformed
 use Rattle.curve.specs.Refusal.{firstOf, told}
 use Rattle.curve.specs.Create.{curveCount, createRefusals, createdOf}
 use Rattle.curve.specs.Curve.{isCurve, curveFrom}
-use Rattle.curve.specs.Bound.{matrixWithin}
+use Rattle.curve.specs.Bound.{boundOf, curveRefusals, objectBound, matrixWithin, worldBoundRefusals, boundFrom, worldBound, areaOf, areaIn}
+use Rattle.curve.specs.List.{over}
+use Rattle.curve.specs.declared.bound.Bound.the-variants as bound
+use Rattle.curve.specs.declared.bound.Measured.the-variants as measured
 use Rattle.curve.specs.declared.create.Params.{Params}
 use Rattle.curve.specs.declared.create.Created.the-variants as created
 use Rattle.intersect.specs.declared.Intersection.{Intersection}
@@ -25,18 +32,39 @@ use Rattle.segment.specs.Depth.{depthOf}
 use Rattle.segment.specs.Frame.{framedCurve}
 use Rattle.intersect.specs.Intersect.{rayWithin, repliedAt, intersectSegment, intersectFramed, rayRefusals, intersectRefusals, intersectOf}
 use Rattle.intersect.proofs.Law.{refusal-number}
-use Rattle.curve_c.specs.Calls.{createdStatus, metStatus, metBy}
+use Rattle.sheet.specs.Sheet.{headOf, pointsOf, rayCount, raysOf, isWhole, noRays, refusedWith, paramsIn, withCurves, sheetWithin, sheetOf}
+use Rattle.sheet.specs.declared.head.Head.{Head}
+use Rattle.sheet.specs.declared.Reply.{Reply}
+use Rattle.sheet.specs.declared.Reply.the-variants as reply
+use Rattle.sheet.specs.declared.Sheet.{Sheet}
+use Rattle.curve_c.specs.Calls.{createdStatus, boundStatus, areaStatus, metStatus, metBy, replyStatus}
 use Rattle.curve_c.specs.Floats.{rayFrom}
 
--- ---- curve_create
+-- ---- what is told by a table of refusals
 
-pub create-answers : (l : List Float) (p : Params) (room : ℕ) → createdStatus (createdOf l p room) ≡ 0 → (n : ℕ) × (createdOf l p room ≡ created.Curves n)
+told-answers : {A : Type 0} (status : A → ℕ) (refused : ℕ → A) → ((k : ℕ) → status (refused k) ≡ k) → (k : ℕ) (x : A) → status (told refused k x) ≡ 0 → told refused k x ≡ x
+told-answers status refused h zero x e = refl
+told-answers status refused h (suc k) x e = absurd (omega (arith, sym (h (suc k)) ∙ e))
+
+pub create-answers : (l : List Float) (p : Params) (room : ℕ) → createdStatus (createdOf l p room) ≡ 0 → createdOf l p room ≡ created.Curves (curveCount (length l / 3) p)
 unfolding createdOf
-create-answers l p room e = go (firstOf (createRefusals l p room)) (curveCount (length l / 3) p) e
+create-answers l p room = told-answers createdStatus created.Refused (λ k. refl) (firstOf (createRefusals l p room)) (created.Curves (curveCount (length l / 3) p))
+
+pub object-bound-answers : (l : List Float) → boundStatus (objectBound l) ≡ 0 → objectBound l ≡ bound.Bounds (boundOf (curveFrom l))
+unfolding objectBound
+object-bound-answers l = told-answers boundStatus bound.Refused (λ k. refl) (firstOf (curveRefusals l)) (bound.Bounds (boundOf (curveFrom l)))
+
+pub world-bound-answers : (l : List Float) (m : Matrix4x4) → boundStatus (worldBound l m) ≡ 0 → (b : Bounds3f) × (worldBound l m ≡ bound.Bounds b)
+unfolding worldBound
+world-bound-answers l m = go (firstOf (worldBoundRefusals l m)) (transformBounds m (boundOf (curveFrom l)))
   where
-    go : (k n : ℕ) → createdStatus (told created.Refused k (created.Curves n)) ≡ 0 → (m : ℕ) × (told created.Refused k (created.Curves n) ≡ created.Curves m)
-    go zero n e = (n, refl)
-    go (suc k) n e = absurd (omega (arith, e))
+    go : (k : ℕ) (t : TransformedBounds) → boundStatus (told bound.Refused k (boundFrom t)) ≡ 0 → (b : Bounds3f) × (told bound.Refused k (boundFrom t) ≡ bound.Bounds b)
+    go k (transformed.Bounds b) e = (b, told-answers boundStatus bound.Refused (λ k. refl) k (bound.Bounds b) e)
+    go k transformed.ZeroWeight e = absurd (omega (arith, e, ap boundStatus (told-answers boundStatus bound.Refused (λ k. refl) k (bound.Refused 12) e)))
+
+pub area-answers : (l : List Float) → areaStatus (areaIn l) ≡ 0 → areaIn l ≡ measured.Area (areaOf (curveFrom l))
+unfolding areaIn
+area-answers l = told-answers areaStatus measured.Refused (λ k. refl) (firstOf (curveRefusals l)) (measured.Area (areaOf (curveFrom l)))
 
 -- ---- curve_intersect
 
@@ -88,3 +116,35 @@ met-misses piece o2w w2o reverse ray = go _ (met-numbered piece (matrixFrom o2w)
     go (Hit h n) k e = absurd (omega (arith, e))
     go (Miss n) k e = (n, refl)
     go (Refused number) k e = absurd (omega (arith, k, e))
+
+-- ---- curve_sheet
+
+-- a refusal's number is not 0
+abbrev Refusing : Reply → Type 0
+Refusing (reply.Accepted pieces reverse n) = Unit {0}
+Refusing (reply.Refused number line) = 1 ≤ number
+
+refusing-either : (b : Bool) (x y : Sheet) → Refusing (x .reply) → Refusing (y .reply) → Refusing (cond b x y .reply)
+refusing-either true x y p q = p
+refusing-either false x y p q = q
+
+refusing-made : (h : Head) (n : ℕ) (rays : List Float) (k c : ℕ) → Refusing (withCurves h n rays (told created.Refused k (created.Curves c)) .reply)
+unfolding refusedWith
+refusing-made h n rays zero c = tt
+refusing-made h n rays (suc k) c = omega arith
+
+refusing : (l : List ℕ) (room : ℕ) → Refusing (sheetOf l room .reply)
+unfolding sheetOf sheetWithin refusedWith createdOf
+refusing l room =
+    let h = headOf l in
+    let c = h .cursor in
+    let points = pointsOf l c in
+    let made = refusing-made h (rayCount l c) (over noRays 0 (raysOf l c)) (firstOf (createRefusals points (paramsIn h) room)) (curveCount (length points / 3) (paramsIn h)) in
+    refusing-either (ltb 65536 (length l)) _ _ (lit≤ tt) (refusing-either (isWhole l c) _ _ made (lit≤ tt))
+
+pub sheet-answers : (l : List ℕ) (room : ℕ) → replyStatus (sheetOf l room .reply) ≡ 0 → (pieces : ℕ) × (reverse : Bool) × (n : ℕ) × (sheetOf l room .reply ≡ reply.Accepted pieces reverse n)
+sheet-answers l room = go (sheetOf l room .reply) (refusing l room)
+  where
+    go : (r : Reply) → Refusing r → replyStatus r ≡ 0 → (pieces : ℕ) × (reverse : Bool) × (n : ℕ) × (r ≡ reply.Accepted pieces reverse n)
+    go (reply.Accepted pieces reverse n) k e = (pieces, reverse, n, refl)
+    go (reply.Refused number line) k e = absurd (omega (arith, k, e))

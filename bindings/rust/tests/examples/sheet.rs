@@ -3,20 +3,7 @@
 use crate::common::{marked_list, straight, MARK, UP};
 use curve::{intersect, read_sheet, Intersection, Refusal, Sheet, SheetRefusal, IDENTITY};
 
-const WHOLE_CASE: &str = "\
-degree=3
-basis=bezier
-type=flat
-width0=3f800000
-width1=3f800000
-splitdepth=0
-reverse=0
-point=c0400000,00000000,40800000
-point=bf800000,00000000,40800000
-point=3f800000,00000000,40800000
-point=40400000,00000000,40800000
-beam=00000000,00000000,00000000,00000000,00000000,3f800000,7f800000,00000000
-";
+const WHOLE_CASE: &str = include_str!("../../../../examples/straight.sheet");
 
 /// Refused, and the list is as it was.
 fn assert_refused(sheet: &str, refusal: Refusal, line: u32) {
