@@ -5,7 +5,7 @@ ghost use mathlib.Core.Path.{_≡_};
 ghost use Prim.Native.Nat.{_≤_};
 ghost use lib.ListN.{length};
 use crate::size::Size;
-use curve::Created;
+use create::Created;
 use lines::float_at;
 
 fn word_float(word: u32) -> f32 {
@@ -28,7 +28,7 @@ fn points_of(words: &[u32; 4096], n: usize) -> [f32; 4096]
 
 fn create(words: &[u32; 4096], points: &[f32], list: &mut [f32], out: &mut [u32; 96]) -> usize {
     lines::fill(list);
-    let created = curve::create_curve_shape(
+    let created = create::create_curve_shape(
         points,
         words[0],
         words[1],

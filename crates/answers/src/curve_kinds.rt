@@ -2,12 +2,12 @@
 use crate::create::create_curve_shape;
 use crate::size::Size;
 use crate::size::refused;
-use curve::Bound;
-use curve::Measured;
 use lines::curve_of;
 use lines::matrix_at;
 use lines::put_float;
 use lines::put_point;
+use measure::Bound;
+use measure::Measured;
 
 pub const AREA: u8 = 11;
 
@@ -19,7 +19,7 @@ pub const CREATE_CURVE_SHAPE: u8 = 14;
 
 fn area(words: &[u32; 4096], out: &mut [u32; 96]) -> Size {
     let curve = curve_of(words);
-    match curve::area(&curve) {
+    match measure::area(&curve) {
         Measured::Area(a) => {
             out[0] = 0;
             put_float(out, 1, a);
@@ -46,12 +46,12 @@ fn bound(out: &mut [u32; 96], inputs: usize, b: Bound) -> Size {
 
 fn object_bound(words: &[u32; 4096], out: &mut [u32; 96]) -> Size {
     let curve = curve_of(words);
-    bound(out, 16, curve::object_bound(&curve))
+    bound(out, 16, measure::object_bound(&curve))
 }
 
 fn world_bound(words: &[u32; 4096], out: &mut [u32; 96]) -> Size {
     let curve = curve_of(words);
-    bound(out, 32, curve::world_bound(&curve, matrix_at(words, 16)))
+    bound(out, 32, measure::world_bound(&curve, matrix_at(words, 16)))
 }
 
 // Puts the answer of a kind of this module.

@@ -1,9 +1,2 @@
-pub mod Axis
-pub mod Basis
-pub mod Bezier
-pub mod Bound
-pub mod Create
 pub mod Curve
-pub mod List
-pub mod Marked
-pub mod Refusal
+pub mod Layout

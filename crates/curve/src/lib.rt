@@ -1,30 +1,18 @@
-// Flat curves: src/shapes/curve.rs of pbrt-rust, by its names and in its order of operations. A curve
-// is lent as a slice of floats and tested, refusals are numbers, and nothing is asked of a caller.
-mod axis;
-mod basis;
-mod bezier;
-mod bound;
-mod create;
+// The record of a flat curve: Curve and CurveCommon of src/shapes/curve.rs of pbrt-rust. A curve is lent as a slice of
+// floats, whose layout stands in one module.
 mod curve;
-mod refusal;
+mod layout;
 
-pub use bezier::Cubic;
-pub use bezier::Eval;
-pub use bezier::Split;
-pub use bezier::eval_bezier;
-pub use bezier::subdivide_bezier;
-pub use bound::Bound;
-pub use bound::Measured;
-pub use bound::area;
-pub use bound::is_matrix_within;
-pub use bound::object_bound;
-pub use bound::world_bound;
-pub use create::Created;
-pub use create::create_curve_shape;
 pub use curve::Curve;
-pub use curve::FLOATS;
-pub use curve::Reading;
 pub use curve::control_points;
-pub use curve::is_within;
-pub use curve::read;
+pub use curve::coordinates;
+pub use curve::is_curve;
 pub use curve::width_at;
+pub use layout::FLOATS;
+pub use layout::UMAX;
+pub use layout::UMIN;
+pub use layout::WIDTH0;
+pub use layout::WIDTH1;
+pub use layout::cubic_from;
+pub use layout::curve_floats;
+pub use layout::curve_from;

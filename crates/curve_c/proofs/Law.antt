@@ -14,15 +14,17 @@ use Rattle.matrix.specs.Matrix.{matrixFrom}
 use Rattle.transform.specs.Bounds.{transformBounds}
 use Rattle.transform.specs.declared.bounds.TransformedBounds.{TransformedBounds}
 use Rattle.transform.specs.declared.bounds.TransformedBounds.the-variants as transformed
-use Rattle.curve.specs.Refusal.{firstOf, told}
-use Rattle.curve.specs.Create.{curveCount, createRefusals, createdOf}
-use Rattle.curve.specs.Curve.{isCurve, curveFrom}
-use Rattle.curve.specs.Bound.{boundOf, curveRefusals, objectBound, matrixWithin, worldBoundRefusals, boundFrom, worldBound, areaOf, areaIn}
-use Rattle.curve.specs.List.{over}
-use Rattle.curve.specs.declared.bound.Bound.the-variants as bound
-use Rattle.curve.specs.declared.bound.Measured.the-variants as measured
-use Rattle.curve.specs.declared.create.Params.{Params}
-use Rattle.curve.specs.declared.create.Created.the-variants as created
+use Rattle.limits.specs.Refusal.{firstOf, told}
+use Rattle.create.specs.Create.{curveCount, createRefusals, createdOf}
+use Rattle.curve.specs.Curve.{isCurve}
+use Rattle.curve.specs.Layout.{curveFrom}
+use Rattle.measure.specs.Bound.{boundOf, curveRefusals, objectBound, worldBoundRefusals, boundFrom, worldBound, areaOf, areaIn}
+use Rattle.limits.specs.Within.{matrixWithin}
+use Rattle.limits.specs.List.{over}
+use Rattle.measure.specs.declared.bound.Bound.the-variants as bound
+use Rattle.measure.specs.declared.bound.Measured.the-variants as measured
+use Rattle.create.specs.declared.create.Params.{Params}
+use Rattle.create.specs.declared.create.Created.the-variants as created
 use Rattle.intersect.specs.declared.Intersection.{Intersection}
 use Rattle.intersect.specs.declared.Intersection.the-variants.{Hit, Miss, Refused}
 use Rattle.segment.specs.declared.frame.Framed.{Framed}
@@ -30,7 +32,8 @@ use Rattle.segment.specs.declared.frame.Framed.the-variants as framed
 use Rattle.segment.specs.declared.interaction.SurfaceInteraction.{SurfaceInteraction}
 use Rattle.segment.specs.Depth.{depthOf}
 use Rattle.segment.specs.Frame.{framedCurve}
-use Rattle.intersect.specs.Intersect.{rayWithin, repliedAt, intersectSegment, intersectFramed, rayRefusals, intersectRefusals, intersectOf}
+use Rattle.limits.specs.Within.{rayWithin}
+use Rattle.intersect.specs.Intersect.{repliedAt, intersectSegment, intersectFramed, rayRefusals, intersectRefusals, intersectOf}
 use Rattle.intersect.proofs.Law.{refusal-number}
 use Rattle.sheet.specs.Sheet.{headOf, pointsOf, rayCount, raysOf, isWhole, noRays, refusedWith, paramsIn, withCurves, sheetWithin, sheetOf}
 use Rattle.sheet.specs.declared.head.Head.{Head}

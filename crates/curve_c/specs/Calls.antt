@@ -6,12 +6,12 @@ use mathlib.Core.Bool.{cond}
 use lib.Dec.{ltb}
 use lib.ListN.{set}
 use lib.Ieee.{Float}
-use Rattle.curve.specs.declared.create.Created.{Created}
-use Rattle.curve.specs.declared.create.Created.the-variants as created
-use Rattle.curve.specs.declared.bound.Bound.{Bound}
-use Rattle.curve.specs.declared.bound.Bound.the-variants as bound
-use Rattle.curve.specs.declared.bound.Measured.{Measured}
-use Rattle.curve.specs.declared.bound.Measured.the-variants as measured
+use Rattle.create.specs.declared.create.Created.{Created}
+use Rattle.create.specs.declared.create.Created.the-variants as created
+use Rattle.measure.specs.declared.bound.Bound.{Bound}
+use Rattle.measure.specs.declared.bound.Bound.the-variants as bound
+use Rattle.measure.specs.declared.bound.Measured.{Measured}
+use Rattle.measure.specs.declared.bound.Measured.the-variants as measured
 use Rattle.intersect.specs.declared.Intersection.{Intersection}
 use Rattle.intersect.specs.declared.Intersection.the-variants.{Hit, Miss, Refused}
 use Rattle.sheet.specs.declared.Reply.{Reply}

@@ -2,14 +2,14 @@
 ghost use mathlib.Core.Path.{_≡_};
 ghost use lib.ListN.{length};
 ghost use Rattle.matrix.specs.Matrix.{matrixFrom};
-ghost use Rattle.curve.specs.Create.{paramsOf, createdOf, listAfter};
-ghost use Rattle.curve.specs.Bound.{objectBound, worldBound, areaIn};
+ghost use Rattle.create.specs.Create.{paramsOf, createdOf, listAfter};
+ghost use Rattle.measure.specs.Bound.{objectBound, worldBound, areaIn};
 ghost use Rattle.curve_c.specs.Calls.{createdStatus, piecesAfter, boundStatus, boundAfter, areaStatus, areaAfter};
 use crate::floats::bounds_floats;
 use crate::floats::matrix_from;
-use curve::Bound;
-use curve::Created;
-use curve::Measured;
+use create::Created;
+use measure::Bound;
+use measure::Measured;
 
 #[no_mangle]
 pub extern "C" fn curve_create(
@@ -27,7 +27,7 @@ pub extern "C" fn curve_create(
     ensures { λ _. ⌜ now (list .exit) ≡ listAfter (now (points .entry)) (paramsOf degree basis ty width0 width1 splitdepth) (now (list .entry)) ⌝ }
     ensures { λ _. ⌜ now (pieces .exit) ≡ piecesAfter (createdOf (now (points .entry)) (paramsOf degree basis ty width0 width1 splitdepth) (length (now (list .entry)))) (now (pieces .entry)) ⌝ }
 {
-    match curve::create_curve_shape(points, degree, basis, ty, width0, width1, splitdepth, list) {
+    match create::create_curve_shape(points, degree, basis, ty, width0, width1, splitdepth, list) {
         Created::Curves(n) => {
             *pieces = n;
             0
@@ -55,7 +55,7 @@ pub extern "C" fn curve_object_bound(piece: &[f32], out: &mut [f32; 6]) -> u32
     ensures { λ r. ⌜ r ≡ boundStatus (objectBound (now (piece .entry))) ⌝ }
     ensures { λ _. ⌜ now (out .exit) ≡ boundAfter (objectBound (now (piece .entry))) (now (out .entry)) ⌝ }
 {
-    put_bound(curve::object_bound(piece), out)
+    put_bound(measure::object_bound(piece), out)
 }
 
 #[no_mangle]
@@ -67,7 +67,10 @@ pub extern "C" fn curve_world_bound(
     ensures { λ r. ⌜ r ≡ boundStatus (worldBound (now (piece .entry)) (matrixFrom (now («object_to_world» .entry)))) ⌝ }
     ensures { λ _. ⌜ now (out .exit) ≡ boundAfter (worldBound (now (piece .entry)) (matrixFrom (now («object_to_world» .entry)))) (now (out .entry)) ⌝ }
 {
-    put_bound(curve::world_bound(piece, matrix_from(object_to_world)), out)
+    put_bound(
+        measure::world_bound(piece, matrix_from(object_to_world)),
+        out,
+    )
 }
 
 #[no_mangle]
@@ -75,7 +78,7 @@ pub extern "C" fn curve_area(piece: &[f32], out: &mut f32) -> u32
     ensures { λ r. ⌜ r ≡ areaStatus (areaIn (now (piece .entry))) ⌝ }
     ensures { λ _. ⌜ now (out .exit) ≡ areaAfter (areaIn (now (piece .entry))) (now (out .entry)) ⌝ }
 {
-    match curve::area(piece) {
+    match measure::area(piece) {
         Measured::Area(a) => {
             *out = a;
             0

@@ -1,6 +1,9 @@
 -- Points. The Rust file is not supplied: 01 says how they behave. Definitions only.
+use Prim.Native.Nat.{ℕ, _+_}
 use mathlib.Core.Bool.{cond}
-use lib.Ieee.{Float, eq}
+use mathlib.Core.List.{List}
+use lib.ListN.{getD}
+use lib.Ieee.{Float, nan, eq}
 use Rattle.float.specs.Arith.{_⊕_, _⊖_, _⊗_, _⊘_, 0f, 1f}
 use Rattle.float.specs.Basic.{minOf, maxOf}
 use Rattle.geometry.specs.declared.point.Point2f.{Point2f}
@@ -18,6 +21,10 @@ unfoldable pub difference2 : Point2f → Point2f → Vector2f
 difference2 p q = record { x = p .x ⊖ q .x; y = p .y ⊖ q .y }
 
 -- ---- Point3
+
+-- three floats from a place on
+unfoldable pub pointFrom : List Float → ℕ → Point3f
+pointFrom l at = record { x = getD l at nan; y = getD l (at + 1) nan; z = getD l (at + 2) nan }
 
 -- point + point
 unfoldable pub plus : Point3f → Point3f → Point3f

@@ -1,6 +1,9 @@
 -- Vectors: core/geometry/vector.rs. Definitions only.
+use Prim.Native.Nat.{ℕ, _+_}
 use mathlib.Core.Bool.{cond}
-use lib.Ieee.{Float, binary64, mul, sub, neg, eq, lt}
+use mathlib.Core.List.{List}
+use lib.ListN.{getD}
+use lib.Ieee.{Float, nan, binary64, mul, sub, neg, eq, lt}
 use Rattle.float.specs.Arith.{_⊕_, _⊗_, _⊘_, 0f, 1f}
 use Rattle.float.specs.Basic.{absOf}
 use Rattle.float.specs.Narrow.{narrowOf}
@@ -24,6 +27,10 @@ unfoldable pub lengthSquared2 : Vector2f → Float
 lengthSquared2 v = v .x ⊗ v .x ⊕ v .y ⊗ v .y
 
 -- ---- Vector3
+
+-- three floats from a place on
+unfoldable pub vectorFrom : List Float → ℕ → Vector3f
+vectorFrom l at = record { x = getD l at nan; y = getD l (at + 1) nan; z = getD l (at + 2) nan }
 
 unfoldable pub negated : Vector3f → Vector3f
 negated v = record { x = neg (v .x); y = neg (v .y); z = neg (v .z) }

@@ -1,6 +1,6 @@
 // Boxes: core/geometry/bounds.rs.
 ghost use mathlib.Core.Path.{_≡_};
-ghost use Rattle.geometry.specs.Bounds.{boundsAt, boundsOf, withPoint, union, expanded};
+ghost use Rattle.geometry.specs.Bounds.{boundsAt, withPoint, expanded};
 use crate::point::Point3f;
 use crate::vector::Vector3f;
 
@@ -16,30 +16,12 @@ impl Bounds3f {
         Bounds3f { p_min: p, p_max: p }
     }
 
-    pub fn from_points(p1: Point3f, p2: Point3f) -> Bounds3f
-        ensures { λ r. ⌜ r ≡ boundsOf p1 p2 ⌝ }
-    {
-        Bounds3f {
-            p_min: p1.min(p2),
-            p_max: p1.max(p2),
-        }
-    }
-
     pub fn union_point(self, p: Point3f) -> Bounds3f
         ensures { λ r. ⌜ r ≡ withPoint self p ⌝ }
     {
         Bounds3f {
             p_min: self.p_min.min(p),
             p_max: self.p_max.max(p),
-        }
-    }
-
-    pub fn union_bounds(self, b: Bounds3f) -> Bounds3f
-        ensures { λ r. ⌜ r ≡ union self b ⌝ }
-    {
-        Bounds3f {
-            p_min: self.p_min.min(b.p_min),
-            p_max: self.p_max.max(b.p_max),
         }
     }
 

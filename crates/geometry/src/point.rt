@@ -1,6 +1,8 @@
 // Points: they go by component, as vectors do.
 ghost use mathlib.Core.Path.{_≡_};
-ghost use Rattle.geometry.specs.Point.{difference2, plus, moved, movedBack, difference, pointScaled, pointDivided, distanceOf, leastOf, greatestOf, pointLerp};
+ghost use Prim.Native.Nat.{_+_, _≤_};
+ghost use lib.ListN.{length};
+ghost use Rattle.geometry.specs.Point.{pointFrom, difference2, plus, moved, movedBack, difference, pointScaled, pointDivided, leastOf, greatestOf, pointLerp};
 use crate::pbrt::lerp;
 use crate::vector::Vector2f;
 use crate::vector::Vector3f;
@@ -25,6 +27,18 @@ pub struct Point3f {
     pub x: f32,
     pub y: f32,
     pub z: f32,
+}
+
+// The point whose coordinates start at a place among floats. It asks that they are there: it reads for other crates.
+pub fn point_from(s: &[f32], at: usize) -> Point3f
+    requires { ⌜ at + 3 ≤ length (now s) ⌝ }
+    ensures { λ r. ⌜ r ≡ pointFrom (now (s .entry)) at ⌝ }
+{
+    Point3f {
+        x: s[at],
+        y: s[at + 1],
+        z: s[at + 2],
+    }
 }
 
 // A point divided by a number, or that the number is zero.
@@ -98,13 +112,6 @@ impl Point3f {
                 z: self.z * d,
             })
         }
-    }
-
-    pub fn distance(self, p: Point3f) -> f32
-        ensures { λ r. ⌜ r ≡ distanceOf self p ⌝ }
-    {
-        let d = self.sub(p);
-        d.length()
     }
 
     pub fn min(self, p: Point3f) -> Point3f

@@ -1,6 +1,8 @@
 // Vectors: core/geometry/vector.rs.
 ghost use mathlib.Core.Path.{_≡_};
-ghost use Rattle.geometry.specs.Vector.{negated2, dot2, lengthSquared2, negated, scaled, divided, dotOf, absolute, lengthSquared, lengthOf, normalized, minorOf, vectorOf, crossOf, axesOf, coordinateSystem};
+ghost use Prim.Native.Nat.{_+_, _≤_};
+ghost use lib.ListN.{length};
+ghost use Rattle.geometry.specs.Vector.{vectorFrom, negated2, dot2, lengthSquared2, negated, scaled, divided, dotOf, absolute, lengthSquared, lengthOf, normalized, minorOf, vectorOf, crossOf, axesOf, coordinateSystem};
 
 pub struct Vector2f {
     pub x: f32,
@@ -34,6 +36,18 @@ pub struct Vector3f {
     pub x: f32,
     pub y: f32,
     pub z: f32,
+}
+
+// The vector whose components start at a place among floats. It asks that they are there: it reads for other crates.
+pub fn vector_from(s: &[f32], at: usize) -> Vector3f
+    requires { ⌜ at + 3 ≤ length (now s) ⌝ }
+    ensures { λ r. ⌜ r ≡ vectorFrom (now (s .entry)) at ⌝ }
+{
+    Vector3f {
+        x: s[at],
+        y: s[at + 1],
+        z: s[at + 2],
+    }
 }
 
 // A vector divided by a number, or that the number is zero: there the Rust panics.

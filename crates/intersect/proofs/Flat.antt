@@ -8,7 +8,7 @@ use native.Mathlib.Numerals.{add-one}
 use native.Mathlib.Omega.{arith}
 use lib.Ieee.{Float}
 use lib.Pow.{pow-mono}
-use Rattle.curve.specs.declared.bezier.Cubic.{Cubic}
+use Rattle.bezier.specs.declared.cubic.Cubic.{Cubic}
 use Rattle.curve.specs.declared.curve.Curve.{Curve}
 use Rattle.bisection.specs.Below.{orElse, atOr}
 use Rattle.bisection.specs.Pieces.{piece, firstOpen, bestOpen, openUpTo}

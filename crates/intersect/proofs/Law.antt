@@ -15,8 +15,8 @@ use Rattle.intersect.specs.declared.Intersection.the-variants.{Hit, Miss
 use Rattle.segment.specs.declared.interaction.SurfaceInteraction.{SurfaceInteraction}
 use Rattle.geometry.specs.declared.ray.Ray.{Ray}
 use Rattle.matrix.specs.declared.Matrix4x4.{Matrix4x4}
-use Rattle.curve.specs.Curve.{curveFrom}
-use Rattle.curve.specs.Refusal.{firstOf}
+use Rattle.curve.specs.Layout.{curveFrom}
+use Rattle.limits.specs.Refusal.{firstOf}
 use Rattle.segment.specs.declared.frame.Context.{Context}
 use Rattle.segment.specs.declared.frame.Framed.the-variants as framed
 use Rattle.segment.specs.Depth.{depthOf}

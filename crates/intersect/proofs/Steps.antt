@@ -10,7 +10,7 @@ use lib.Pow.{pow-pos}
 use Rattle.bisection.specs.Walk.{onward, walkOf}
 use Rattle.bisection.proofs.Pieces.{pow-two}
 use Rattle.bisection.proofs.Walked.{half-size}
-use Rattle.curve.specs.Curve.{curveFrom}
+use Rattle.curve.specs.Layout.{curveFrom}
 use Rattle.curve.specs.declared.curve.Curve.{Curve}
 use Rattle.segment.specs.declared.frame.Context.{Context}
 use Rattle.segment.specs.declared.halves.Segment.{Segment}

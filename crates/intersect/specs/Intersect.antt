@@ -10,9 +10,11 @@ use Rattle.float.specs.Arith.{0f}
 use Rattle.geometry.specs.declared.ray.Ray.{Ray}
 use Rattle.matrix.specs.declared.Matrix4x4.{Matrix4x4}
 use Rattle.curve.specs.declared.curve.Curve.{Curve}
-use Rattle.curve.specs.Bound.{largest, matrixWithin}
-use Rattle.curve.specs.Curve.{within, isCurve, curveFrom}
-use Rattle.curve.specs.Refusal.{Table, firstOf, told}
+use Rattle.limits.specs.Within.{largest, matrixWithin}
+use Rattle.limits.specs.Within.{within}
+use Rattle.curve.specs.Curve.{isCurve}
+use Rattle.curve.specs.Layout.{curveFrom}
+use Rattle.limits.specs.Refusal.{Table, firstOf, told}
 use Rattle.bisection.specs.Below.{orElse, atOr}
 use Rattle.bisection.specs.Pieces.{piece, isOpen, openUpTo, firstOpen, lastOpen}
 use Rattle.intersect.specs.declared.Intersection.{Intersection}

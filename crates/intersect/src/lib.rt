@@ -2,16 +2,17 @@
 // and in its order of operations. Refusals are numbers, and nothing is asked of a caller.
 ghost use mathlib.Core.Path.{_≡_};
 ghost use Rattle.intersect.specs.Walk.{reached, finished};
-ghost use Rattle.intersect.specs.Intersect.{rayWithin, intersectSegment, intersectFramed, intersectWithin, intersectOf};
+ghost use Rattle.limits.specs.Within.{rayWithin};
+ghost use Rattle.intersect.specs.Intersect.{intersectSegment, intersectFramed, intersectWithin, intersectOf};
 
 mod walk;
 
 use curve::Curve;
 use curve::Reading;
-use curve::is_matrix_within;
-use curve::is_within;
 use curve::read;
 use geometry::Ray;
+use limits::is_matrix_within;
+use limits::is_within;
 use matrix::Matrix4x4;
 use segment::Context;
 use segment::FOUND;

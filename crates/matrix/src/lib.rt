@@ -1,6 +1,8 @@
 // `Matrix4x4` of pbrt-rust, src/core/transform.rs, and its inverse.
 ghost use mathlib.Core.Path.{_≡_};
-ghost use Rattle.matrix.specs.Matrix.{identity, flat, matrixFrom, inverseOf};
+ghost use Prim.Native.Nat.{_+_, _≤_};
+ghost use lib.ListN.{length};
+ghost use Rattle.matrix.specs.Matrix.{matrixFloats, identity, flat, rowFrom, matrixFrom, inverseOf};
 
 mod inverse;
 
@@ -18,8 +20,37 @@ pub struct Matrix4x4 {
     pub r3: Row,
 }
 
+// How many floats a matrix is.
+pub const MATRIX_FLOATS: usize = 16;
+
+// The row whose floats start at a place.
+fn row_from(s: &[f32], at: usize) -> Row
+    requires { ⌜ at + 4 ≤ length (now s) ⌝ }
+    ensures { λ r. ⌜ r ≡ rowFrom (now (s .entry)) at ⌝ }
+{
+    Row {
+        c0: s[at],
+        c1: s[at + 1],
+        c2: s[at + 2],
+        c3: s[at + 3],
+    }
+}
+
+// The matrix whose floats start at a place, row by row. It asks that they are there: it reads for other crates.
+pub fn matrix_from(s: &[f32], at: usize) -> Matrix4x4
+    requires { ⌜ at + matrixFloats ≤ length (now s) ⌝ }
+    ensures { λ r. ⌜ r ≡ matrixFrom (now (s .entry)) at ⌝ }
+{
+    Matrix4x4 {
+        r0: row_from(s, at),
+        r1: row_from(s, at + 4),
+        r2: row_from(s, at + 8),
+        r3: row_from(s, at + 12),
+    }
+}
+
 // Sixteen floats, row by row.
-fn flatten(m: Matrix4x4) -> [f32; 16]
+fn flatten(m: Matrix4x4) -> [f32; MATRIX_FLOATS]
     ensures { λ r. ⌜ r ≡ flat m ⌝ }
 {
     [
@@ -74,41 +105,10 @@ impl Matrix4x4 {
         Matrix4x4 { r0, r1, r2, r3 }
     }
 
-    // A matrix of sixteen floats, row by row.
-    pub fn from_row_slice(v: [f32; 16]) -> Matrix4x4
-        ensures { λ r. ⌜ r ≡ matrixFrom v ⌝ }
-    {
-        let r0 = Row {
-            c0: v[0],
-            c1: v[1],
-            c2: v[2],
-            c3: v[3],
-        };
-        let r1 = Row {
-            c0: v[4],
-            c1: v[5],
-            c2: v[6],
-            c3: v[7],
-        };
-        let r2 = Row {
-            c0: v[8],
-            c1: v[9],
-            c2: v[10],
-            c3: v[11],
-        };
-        let r3 = Row {
-            c0: v[12],
-            c1: v[13],
-            c2: v[14],
-            c3: v[15],
-        };
-        Matrix4x4 { r0, r1, r2, r3 }
-    }
-
     pub fn inverse(self) -> Matrix4x4
         ensures { λ r. ⌜ r ≡ inverseOf self ⌝ }
     {
         let v = inverse::inverse_flat(flatten(self));
-        Matrix4x4::from_row_slice(v)
+        matrix_from(&v, 0)
     }
 }

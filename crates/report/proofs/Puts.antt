@@ -10,8 +10,8 @@ use lib.Dec.{T, leb, leb→le, lit≤}
 use lib.Ieee.{Float}
 use lib.ListN.{length, take, drop, set, length-append}
 use lib.Seq.{set-split}
-use Rattle.curve.specs.List.{over}
-use Rattle.curve.proofs.Lists.{over-append, length-over}
+use Rattle.limits.specs.List.{over}
+use Rattle.limits.proofs.Lists.{over-append, length-over}
 use Rattle.report.specs.Text.{onlyIf, decimalText, hexText, floatText, placeText, foundText}
 use Rattle.sheet.specs.Ascii.{ascii}
 

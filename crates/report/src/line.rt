@@ -3,7 +3,7 @@
 ghost use mathlib.Core.Path.{_≡_};
 ghost use Prim.Native.Nat.{_+_, _≤_};
 ghost use lib.ListN.{length};
-ghost use Rattle.curve.specs.List.{over};
+ghost use Rattle.limits.specs.List.{over};
 ghost use Rattle.report.specs.Text.{piecesText, placeText, foundText, hitText, missText, refusedText, sheetText};
 use crate::text::put_decimal;
 use crate::text::put_float;

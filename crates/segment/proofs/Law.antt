@@ -9,10 +9,12 @@ use Rattle.geometry.specs.declared.vector.Divided.{Divided}
 use Rattle.geometry.specs.declared.vector.Divided.the-variants.{Vector, ByZero}
 use Rattle.geometry.specs.Vector.{negated, normalized, crossOf}
 use Rattle.matrix.specs.Matrix.{flat}
-use Rattle.curve.specs.declared.bezier.Cubic.{Cubic}
+use Rattle.bezier.specs.declared.cubic.Cubic.{Cubic}
 use Rattle.curve.specs.declared.curve.Curve.{Curve}
-use Rattle.curve.specs.Bezier.{evalOf}
-use Rattle.curve.specs.Curve.{pointFrom, cubicFrom, curveFrom, floatsOf, widthAt}
+use Rattle.bezier.specs.Cubic.{evalOf}
+use Rattle.geometry.specs.Point.{pointFrom}
+use Rattle.curve.specs.Layout.{cubicFrom, curveFrom, curveFloats}
+use Rattle.curve.specs.Curve.{widthAt}
 use Rattle.segment.specs.declared.frame.Context.{Context}
 use Rattle.segment.specs.declared.halves.Segment.{Segment}
 use Rattle.segment.specs.declared.leaf.Crossing.{Crossing}

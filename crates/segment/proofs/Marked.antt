@@ -3,7 +3,7 @@ use mathlib.Core.Path.{_≡_, refl, ap₂}
 use mathlib.Core.List.{List, map, _++_}
 use Prim.Native.Nat.{ℕ}
 use lib.Ieee.{ofBits, toBits, ofFields, lt, units, size, span}
-use Rattle.curve.proofs.Marked as curves
+use Rattle.create.proofs.Marked as curves
 use Rattle.segment.specs.Depth.{exponentOf, logOf, depthAt}
 use Rattle.segment.specs.Marked.{depths, instances}
 

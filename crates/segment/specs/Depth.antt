@@ -5,7 +5,7 @@ use lib.Ieee.{Float, binary32, ofBits, toBits, lt}
 use Rattle.float.specs.Arith.{_⊕_, _⊖_, _⊗_, _⊘_, 0f, 1f, 2f, 6f, 8f}
 use Rattle.float.specs.Basic.{absOf, maxOf}
 use Rattle.geometry.specs.declared.point.Point3f.{Point3f}
-use Rattle.curve.specs.declared.bezier.Cubic.{Cubic}
+use Rattle.bezier.specs.declared.cubic.Cubic.{Cubic}
 use Rattle.curve.specs.declared.curve.Curve.{Curve}
 
 -- 1.41421356237 and 0.05

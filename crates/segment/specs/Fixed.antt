@@ -8,7 +8,8 @@ use Rattle.geometry.specs.declared.ray.Ray.{Ray}
 use Rattle.matrix.specs.declared.Row.{Row}
 use Rattle.matrix.specs.declared.Matrix4x4.{Matrix4x4}
 use Rattle.matrix.specs.Matrix.{flat}
-use Rattle.curve.specs.Curve.{pointFrom, curveFrom, floatsOf}
+use Rattle.geometry.specs.Point.{pointFrom}
+use Rattle.curve.specs.Layout.{curveFrom, curveFloats}
 use Rattle.segment.specs.declared.frame.Context.{Context}
 
 unfoldable pub rowAt : List Float → ℕ → Row

@@ -22,7 +22,7 @@ use Rattle.transform.specs.Handedness.{swapsHandedness}
 use Rattle.transform.specs.LookAt.{lookAt}
 use Rattle.transform.specs.Point.{transformPoint}
 use Rattle.transform.specs.Ray.{transformRayError}
-use Rattle.curve.specs.declared.bezier.Cubic.{Cubic}
+use Rattle.bezier.specs.declared.cubic.Cubic.{Cubic}
 use Rattle.curve.specs.declared.curve.Curve.{Curve}
 use Rattle.curve.specs.Curve.{controlPoints}
 use Rattle.segment.specs.declared.frame.Context.{Context}

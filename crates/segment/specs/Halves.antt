@@ -3,9 +3,9 @@ use mathlib.Core.Bool.{Bool, _||_}
 use lib.Ieee.{Float, lt}
 use Rattle.float.specs.Arith.{_⊕_, _⊖_, _⊗_, _⊘_, 0f, 2f, half}
 use Rattle.float.specs.Basic.{maxOf, minOf}
-use Rattle.curve.specs.declared.bezier.Cubic.{Cubic}
+use Rattle.bezier.specs.declared.cubic.Cubic.{Cubic}
 use Rattle.curve.specs.declared.curve.Curve.{Curve}
-use Rattle.curve.specs.Bezier.{splitOf}
+use Rattle.bezier.specs.Cubic.{splitOf}
 use Rattle.curve.specs.Curve.{widthAt}
 use Rattle.segment.specs.declared.halves.Segment.{Segment}
 use Rattle.segment.specs.declared.halves.Halves.{Halves}

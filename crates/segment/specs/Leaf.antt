@@ -15,9 +15,9 @@ use Rattle.geometry.specs.Ray.{pointAt}
 use Rattle.geometry.specs.Vector.{negated2, dot2, lengthSquared2, negated, scaled, normalized, crossOf}
 use Rattle.transform.specs.declared.camera.Transform.{Transform}
 use Rattle.transform.specs.Vector.{transformVector}
-use Rattle.curve.specs.declared.bezier.Cubic.{Cubic}
-use Rattle.curve.specs.declared.bezier.Eval.{Eval}
-use Rattle.curve.specs.Bezier.{evalOf}
+use Rattle.bezier.specs.declared.cubic.Cubic.{Cubic}
+use Rattle.bezier.specs.declared.cubic.Eval.{Eval}
+use Rattle.bezier.specs.Cubic.{evalOf}
 use Rattle.curve.specs.Curve.{widthAt}
 use Rattle.segment.specs.declared.frame.Context.{Context}
 use Rattle.segment.specs.declared.interaction.SurfaceInteraction.{SurfaceInteraction}

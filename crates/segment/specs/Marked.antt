@@ -2,7 +2,7 @@
 use Prim.Native.Nat.{ℕ}
 use mathlib.Core.List.{List, [], _∷_, _++_}
 use lib.Ieee.{binary32, ofBits}
-use Rattle.curve.specs.Marked as curves
+use Rattle.create.specs.Marked as curves
 use Rattle.segment.specs.Depth.{depthAt}
 
 -- the depth for v's bits

@@ -1,7 +1,7 @@
 // The depth of refinement: how often a curve is cut in two.
 ghost use mathlib.Core.Path.{_≡_};
 ghost use Rattle.segment.specs.Depth.{bend, bendsAt, greatestBend, flatness, exponentOf, logOf, depthAt, depthOf};
-use curve::Cubic;
+use bezier::Cubic;
 use curve::Curve;
 use geometry::Point3f;
 

@@ -1,10 +1,11 @@
 // What a call holds fixed, as plain floats: a walk lends them to every step, where a struct would be copied.
 ghost use mathlib.Core.Path.{_≡_};
 ghost use Prim.Native.Nat.{_≤_};
-ghost use Rattle.curve.specs.Curve.{pointFrom, cubicFrom, curveFrom};
+ghost use Rattle.geometry.specs.Point.{pointFrom};
+ghost use Rattle.curve.specs.Layout.{cubicFrom, curveFrom};
 ghost use Rattle.segment.specs.Fixed.{rowAt, matrixAt, rayAt, zmaxFrom, contextFrom, contextFloats};
 use crate::frame::Context;
-use curve::Cubic;
+use bezier::Cubic;
 use curve::Curve;
 use geometry::Point3f;
 use geometry::Ray;

@@ -3,7 +3,7 @@
 ghost use mathlib.Core.Path.{_≡_};
 ghost use Rattle.segment.specs.Frame.{upVector, rayFrame, pairOf, joinedPairs, projectedCubic, flipsOf, contextOf, inRayFrame, aimedAt, framedCurve};
 use crate::halves::Segment;
-use curve::Cubic;
+use bezier::Cubic;
 use curve::Curve;
 use curve::control_points;
 use geometry::CoordinateSystem;

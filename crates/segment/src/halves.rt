@@ -1,9 +1,9 @@
 // Segments of a curve in the ray's frame, their halves, and the tests that throw one out.
 ghost use mathlib.Core.Path.{_≡_};
 ghost use Rattle.segment.specs.Halves.{middleOf, halvesOf, halfWidth, isOff, isOffZWhole, isThrownBy, isWholeThrown};
-use curve::Cubic;
+use bezier::Cubic;
+use bezier::subdivide_bezier;
 use curve::Curve;
-use curve::subdivide_bezier;
 use curve::width_at;
 
 // The control points in the ray's frame, and the parameters at the ends (01: a piece of the walk, and

@@ -4,9 +4,9 @@ ghost use Rattle.segment.specs.Leaf.{segmentDir, edgeStart, edgeEnd, lin
 use crate::frame::Context;
 use crate::halves::Segment;
 use crate::interaction::SurfaceInteraction;
-use curve::Cubic;
-use curve::Eval;
-use curve::eval_bezier;
+use bezier::Cubic;
+use bezier::Eval;
+use bezier::eval_bezier;
 use curve::width_at;
 use geometry::Divided;
 use geometry::Normal3f;

@@ -10,11 +10,11 @@ use lib.Dec.{eqb, ltb, eqb·suc-suc, lit<, lit≤}
 use lib.Ieee.{Float, binary32, ofBits}
 use lib.ListN.{length, getD, drop, length-append, List·getD-append}
 use lib.Seq.{getD-drop, drop-drop, drop-append-seam}
-use Rattle.curve.specs.Create.{paramsOf, createdOf, listAfter}
-use Rattle.curve.specs.List.{over, upTo}
-use Rattle.curve.specs.declared.create.Params.{Params}
-use Rattle.curve.specs.declared.create.Created.{Created}
-use Rattle.curve.specs.declared.create.Created.the-variants as created
+use Rattle.create.specs.Create.{paramsOf, createdOf, listAfter}
+use Rattle.limits.specs.List.{over, upTo}
+use Rattle.create.specs.declared.create.Params.{Params}
+use Rattle.create.specs.declared.create.Created.{Created}
+use Rattle.create.specs.declared.create.Created.the-variants as created
 use Rattle.sheet.specs.Ascii.{ascii}
 use Rattle.sheet.specs.Bytes.{allBelow, byteIs, standsAt, digitOf, digitAt, fourAt, isWord, wordAt}
 use Rattle.sheet.specs.Grammar.{decimalAt, decimalLine, wordLineAt, wordLine, eitherLine, typeLine, headLine, separator, isFloats, isRow, rowSize, floatAt, floatsAt}

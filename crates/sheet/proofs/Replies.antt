@@ -9,10 +9,10 @@ use lib.Dec.{ltb, eqb}
 use lib.Ieee.{Float, binary32, ofBits}
 use lib.ListN.{length, take}
 use lib.Seq.{take-at}
-use Rattle.curve.specs.Create.{paramsOf, createdOf, listAfter}
-use Rattle.curve.specs.List.{over, upTo}
-use Rattle.curve.specs.declared.create.Created.{Created}
-use Rattle.curve.proofs.Lists.{over-nil, over-length, length-upTo}
+use Rattle.create.specs.Create.{paramsOf, createdOf, listAfter}
+use Rattle.limits.specs.List.{over, upTo}
+use Rattle.create.specs.declared.create.Created.{Created}
+use Rattle.limits.proofs.Lists.{over-nil, over-length, length-upTo}
 use Rattle.sheet.specs.Bytes.{runBelow}
 use Rattle.sheet.specs.Sheet.{rowsFrom, floatsFrom, raysFrom, rayFloats, pointCount, pointsOf, raysAt, rayCount, raysOf, linesRight, isWhole, noRays, refusedWith, paramsIn, withCurves, headOf, sheetWithin, listWithin, sheetOf, listOf}
 use Rattle.sheet.specs.declared.head.Cursor.{Cursor}

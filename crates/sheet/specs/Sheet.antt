@@ -6,11 +6,11 @@ use lib.Dec.{eqb, ltb}
 use lib.Ieee.{Float, binary32, ofBits}
 use lib.ListN.{length, replicate}
 use Rattle.float.specs.Arith.{0f}
-use Rattle.curve.specs.Create.{paramsOf, createdOf, listAfter}
-use Rattle.curve.specs.List.{over, upTo}
-use Rattle.curve.specs.declared.create.Params.{Params}
-use Rattle.curve.specs.declared.create.Created.{Created}
-use Rattle.curve.specs.declared.create.Created.the-variants as created
+use Rattle.create.specs.Create.{paramsOf, createdOf, listAfter}
+use Rattle.limits.specs.List.{over, upTo}
+use Rattle.create.specs.declared.create.Params.{Params}
+use Rattle.create.specs.declared.create.Created.{Created}
+use Rattle.create.specs.declared.create.Created.the-variants as created
 use Rattle.sheet.specs.Ascii.{ascii}
 use Rattle.sheet.specs.Bytes.{runBelow}
 use Rattle.sheet.specs.Grammar.{headLine, isRow, rowSize, floatsAt}

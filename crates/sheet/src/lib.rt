@@ -3,8 +3,8 @@
 ghost use mathlib.Core.Path.{_≡_};
 ghost use Prim.Native.Nat.{_≤_};
 ghost use lib.ListN.{length};
-ghost use Rattle.curve.specs.Create.{createdOf, listAfter};
-ghost use Rattle.curve.specs.List.{over};
+ghost use Rattle.create.specs.Create.{createdOf, listAfter};
+ghost use Rattle.limits.specs.List.{over};
 ghost use Rattle.sheet.specs.Sheet.{pointCount, pointsOf, raysFrom, rayFloats, refusedWith, paramsIn, withCurves, sheetWithin, listWithin, sheetOf, listOf};
 
 mod bytes;
@@ -13,7 +13,7 @@ mod line;
 mod reader;
 mod rows;
 
-use curve::Created;
+use create::Created;
 use head::Cursor;
 use head::Head;
 use head::read_head;
@@ -74,7 +74,7 @@ fn create(h: Head, points: &[f32], list: &mut [f32], n: usize, rays: [f32; 512])
 {
     let width0 = float::of_bits(h.width0);
     let width1 = float::of_bits(h.width1);
-    let created = curve::create_curve_shape(
+    let created = create::create_curve_shape(
         points,
         h.degree,
         h.basis,

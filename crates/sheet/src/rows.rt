@@ -2,7 +2,7 @@
 ghost use mathlib.Core.Path.{_≡_};
 ghost use Prim.Native.Nat.{_+_, _*_, _≤_, _<_};
 ghost use lib.ListN.{length};
-ghost use Rattle.curve.specs.List.{over};
+ghost use Rattle.limits.specs.List.{over};
 ghost use Rattle.sheet.specs.Grammar.{separator, isFloats, isRow, floatAt, floatsAt};
 ghost use Rattle.sheet.specs.Sheet.{rowsFrom, floatsFrom};
 use crate::bytes::is_byte;

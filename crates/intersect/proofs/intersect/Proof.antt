@@ -2,8 +2,8 @@
 -- Assumes nothing.
 use borrow.Author.Needs.{needs}
 use mathlib.Core.Path.{sym, _∙_}
-use Rattle.curve.specs.Refusal.{Table}
-use Rattle.curve.proofs.Reading.{at-nine, past-nine}
+use Rattle.limits.specs.Refusal.{Table}
+use Rattle.curve.proofs.Records.{at-nine, past-nine}
 use Rattle.intersect.specs.Intersect.{rayRefusals, intersectRefusals, intersectWithin, intersectOf}
 use Rattle.intersect.proofs.intersect.Statement.{statement}
 use Rattle.intersect.proofs.intersect.Tie as tie

@@ -1,6 +1,6 @@
 -- `intersect::intersect_within` meets its contract: each return rewrites by the facts on its way.
 -- Assumes nothing.
-use Rattle.curve.specs.Refusal.{firstOf}
+use Rattle.limits.specs.Refusal.{firstOf}
 use Rattle.intersect.specs.Intersect.{rayRefusals, intersectWithin}
 use Rattle.intersect.proofs.intersect_within.Statement.{statement}
 use Rattle.intersect.proofs.intersect_within.Tie as tie

@@ -2,7 +2,7 @@
 use mathlib.Core.Path.{sym, ap, _∙_}
 use borrow.Author.Needs.{needs}
 use denote.Ref.{now}
-use Rattle.curve.specs.declared.create.Created.{Created}
+use Rattle.create.specs.declared.create.Created.{Created}
 use Rattle.curve_c.specs.Calls.{createdStatus, piecesAfter}
 use Rattle.curve_c.proofs.shapes.curve_create.Statement.{statement}
 use Rattle.curve_c.proofs.shapes.curve_create.Tie as tie

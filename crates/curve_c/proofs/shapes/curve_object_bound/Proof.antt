@@ -2,7 +2,7 @@
 use mathlib.Core.Path.{ap, _∙_}
 use borrow.Author.Needs.{needs}
 use denote.Ref.{now}
-use Rattle.curve.specs.declared.bound.Bound.{Bound}
+use Rattle.measure.specs.declared.bound.Bound.{Bound}
 use Rattle.curve_c.specs.Calls.{boundStatus, boundAfter}
 use Rattle.curve_c.proofs.shapes.curve_object_bound.Statement.{statement}
 use Rattle.curve_c.proofs.shapes.curve_object_bound.Tie as tie

@@ -2,7 +2,7 @@
 use mathlib.Core.Path.{sym, ap, _∙_}
 use borrow.Author.Needs.{needs}
 use denote.Ref.{now}
-use Rattle.curve.specs.declared.bound.Bound.{Bound}
+use Rattle.measure.specs.declared.bound.Bound.{Bound}
 use Rattle.curve_c.specs.Calls.{boundStatus, boundAfter}
 use Rattle.curve_c.proofs.shapes.put_bound.Statement.{statement}
 use Rattle.curve_c.proofs.shapes.put_bound.Tie as tie

@@ -6,8 +6,8 @@ use Prim.Native.Nat.{ℕ, _+_, _<_}
 use native.Mathlib.Nat.{add-zero}
 use borrow.Author.Needs.{needs}
 use lib.ListN.{length, set}
-use Rattle.curve.specs.List.{over}
-use Rattle.curve.proofs.Lists.{over-nil}
+use Rattle.limits.specs.List.{over}
+use Rattle.limits.proofs.Lists.{over-nil}
 use Rattle.report.specs.Text.{onlyIf}
 use Rattle.report.proofs.Puts.{byte-put}
 use Rattle.report.proofs.text.put_if.Statement.{statement}

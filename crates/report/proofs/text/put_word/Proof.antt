@@ -9,7 +9,7 @@ use borrow.Author.Needs.{needs}
 use denote.Ref.{now}
 use lib.ListN.{length, getD, set, length-set}
 use lib.Seq.{paste, paste-zero, paste-suc}
-use Rattle.curve.proofs.Lists.{paste-over}
+use Rattle.limits.proofs.Lists.{paste-over}
 use Rattle.report.proofs.text.put_word.Statement.{statement}
 use Rattle.report.proofs.text.put_word.Tie as tie
 

@@ -1,7 +1,7 @@
 -- `segment::fixed::context_floats` meets its contract: each return rewrites by the facts on its way. Assumes nothing.
 use mathlib.Core.Path.{refl}
 use Rattle.matrix.specs.Matrix.{flat}
-use Rattle.curve.specs.Curve.{floatsOf}
+use Rattle.curve.specs.Layout.{curveFloats}
 use Rattle.segment.specs.Fixed.{rayFloats, contextFloats}
 use Rattle.segment.proofs.fixed.context_floats.Statement.{statement}
 use Rattle.segment.proofs.fixed.context_floats.Tie as tie

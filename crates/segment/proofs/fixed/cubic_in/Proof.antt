@@ -1,6 +1,6 @@
 -- `segment::fixed::cubic_in` meets its contract: each return rewrites by the facts on its way. Assumes nothing.
 use borrow.Author.Needs.{needs}
-use Rattle.curve.specs.Curve.{cubicFrom}
+use Rattle.curve.specs.Layout.{cubicFrom}
 use Rattle.segment.proofs.fixed.cubic_in.Statement.{statement}
 use Rattle.segment.proofs.fixed.cubic_in.Tie as tie
 

@@ -1,6 +1,6 @@
 -- `segment::fixed::curve_in` meets its contract: each return rewrites by the facts on its way. Assumes nothing.
 use borrow.Author.Needs.{needs}
-use Rattle.curve.specs.Curve.{curveFrom}
+use Rattle.curve.specs.Layout.{curveFrom}
 use Rattle.segment.proofs.fixed.curve_in.Statement.{statement}
 use Rattle.segment.proofs.fixed.curve_in.Tie as tie
 

@@ -1,7 +1,7 @@
 -- `segment::fixed::point_in` meets its contract: each return rewrites by the facts on its way. Assumes nothing.
 use mathlib.Core.Path.{refl}
 use borrow.Author.Needs.{needs}
-use Rattle.curve.specs.Curve.{pointFrom}
+use Rattle.geometry.specs.Point.{pointFrom}
 use Rattle.segment.proofs.fixed.point_in.Statement.{statement}
 use Rattle.segment.proofs.fixed.point_in.Tie as tie
 

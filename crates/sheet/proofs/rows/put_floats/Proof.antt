@@ -10,7 +10,7 @@ use denote.Ref.{now}
 use lib.Ieee.{Float, nan}
 use lib.ListN.{length, set, length-set}
 use lib.Seq.{paste, paste-zero, paste-suc}
-use Rattle.curve.proofs.Lists.{paste-over}
+use Rattle.limits.proofs.Lists.{paste-over}
 use Rattle.sheet.specs.Grammar.{floatAt, floatsAt}
 use Rattle.sheet.proofs.Floats.{length-floats, floats-at}
 use Rattle.sheet.proofs.rows.put_floats.Statement.{statement}

@@ -10,8 +10,8 @@ use borrow.Author.Tests.{not-true, not-false}
 use denote.Ref.{now}
 use lib.Ieee.{Float}
 use lib.ListN.{length}
-use Rattle.curve.specs.List.{over, upTo}
-use Rattle.curve.proofs.Lists.{over-nil, over-next, over-length}
+use Rattle.limits.specs.List.{over, upTo}
+use Rattle.limits.proofs.Lists.{over-nil, over-next, over-length}
 use Rattle.sheet.specs.Bytes.{allBelow}
 use Rattle.sheet.specs.Grammar.{isRow, rowSize, floatsAt}
 use Rattle.sheet.specs.Sheet.{rowsFrom, floatsFrom}

@@ -1,0 +1,3 @@
+pub mod Basis
+pub mod Create
+pub mod Marked

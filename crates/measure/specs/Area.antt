@@ -1,0 +1,20 @@
+-- The area. Definitions only.
+use mathlib.Core.Bool.{not}
+use mathlib.Core.List.{List, [], _∷_}
+use lib.Ieee.{Float}
+use Rattle.float.specs.Arith.{_⊕_, _⊗_, half}
+use Rattle.limits.specs.Refusal.{firstOf, told}
+use Rattle.bezier.specs.Cubic.{chordsOf}
+use Rattle.curve.specs.declared.curve.Curve.{Curve}
+use Rattle.curve.specs.Layout.{curveFrom}
+use Rattle.curve.specs.Curve.{isCurve, controlPoints, widthAt}
+use Rattle.measure.specs.declared.areas.Measured.{Measured}
+use Rattle.measure.specs.declared.areas.Measured.the-variants.{Area, Refused}
+
+-- area of a curve within the limits: three chords times the mean width
+unfoldable pub areaOf : Curve → Float
+areaOf c = chordsOf (controlPoints c) ⊗ ((widthAt c (c .umin) ⊕ widthAt c (c .umax)) ⊗ half)
+
+-- 9
+unfoldable pub areaIn : List Float → Measured
+areaIn l = told Refused (firstOf ((not (isCurve l), 9) ∷ [])) (Area (areaOf (curveFrom l)))

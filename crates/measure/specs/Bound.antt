@@ -1,0 +1,53 @@
+-- Boxes: object_bound and world_bound (01: the hall box). Definitions only.
+use mathlib.Core.Bool.{not}
+use mathlib.Core.List.{List, [], _∷_}
+use lib.Ieee.{Float}
+use Rattle.float.specs.Arith.{_⊗_, half}
+use Rattle.float.specs.Basic.{maxOf}
+use Rattle.geometry.specs.declared.bounds.Bounds3f.{Bounds3f}
+use Rattle.geometry.specs.Bounds.{boundsOf, union, expanded}
+use Rattle.matrix.specs.declared.Matrix4x4.{Matrix4x4}
+use Rattle.transform.specs.Bounds.{transformBounds}
+use Rattle.transform.specs.declared.bounds.TransformedBounds.{TransformedBounds}
+use Rattle.transform.specs.declared.bounds.TransformedBounds.the-variants as transformed
+use Rattle.limits.specs.Refusal.{Table, firstOf, told}
+use Rattle.limits.specs.Within.{matrixWithin}
+use Rattle.bezier.specs.declared.cubic.Cubic.{Cubic}
+use Rattle.curve.specs.declared.curve.Curve.{Curve}
+use Rattle.curve.specs.Layout.{curveFrom}
+use Rattle.curve.specs.Curve.{isCurve, controlPoints, widthAt}
+use Rattle.measure.specs.declared.bound.Bound.{Bound}
+use Rattle.measure.specs.declared.bound.Bound.the-variants.{Bounds, Refused}
+
+-- ---- the box
+
+-- of four points
+unfoldable pub boxOf : Cubic → Bounds3f
+boxOf p = union (boundsOf (p .p0) (p .p1)) (boundsOf (p .p2) (p .p3))
+
+-- object_bound of a curve within the limits: that of its control points, widened by half the larger end width
+unfoldable pub boundOf : Curve → Bounds3f
+boundOf c = expanded (boxOf (controlPoints c)) (maxOf (widthAt c (c .umin)) (widthAt c (c .umax)) ⊗ half)
+
+-- 9
+unfoldable pub objectBound : List Float → Bound
+objectBound l = told Refused (firstOf ((not (isCurve l), 9) ∷ [])) (Bounds (boundOf (curveFrom l)))
+
+-- ---- the hall box
+
+-- 10
+unfoldable pub matrixRefusals : Matrix4x4 → Table
+matrixRefusals m = (not (matrixWithin m), 10) ∷ []
+
+-- a corner's weight of zero is refusal 12
+abbrev pub boundFrom : TransformedBounds → Bound
+boundFrom (transformed.Bounds b) = Bounds b
+boundFrom transformed.ZeroWeight = Refused 12
+
+-- of a curve within the limits
+unfoldable pub worldBoundOf : Curve → Matrix4x4 → Bound
+worldBoundOf c m = told Refused (firstOf (matrixRefusals m)) (boundFrom (transformBounds m (boundOf c)))
+
+-- 9, 10
+unfoldable pub worldBound : List Float → Matrix4x4 → Bound
+worldBound l m = told Refused (firstOf ((not (isCurve l), 9) ∷ matrixRefusals m)) (boundFrom (transformBounds m (boundOf (curveFrom l))))

@@ -1,0 +1,37 @@
+// The area of a curve.
+ghost use mathlib.Core.Path.{_≡_};
+ghost use Prim.Native.Nat.{_≤_};
+ghost use lib.ListN.{length};
+ghost use Rattle.curve.specs.Layout.{floats, curveFrom};
+ghost use Rattle.measure.specs.Area.{areaOf, areaIn};
+use bezier::chords;
+use curve::UMAX;
+use curve::UMIN;
+use curve::coordinates;
+use curve::is_curve;
+use curve::width_at;
+
+pub enum Measured {
+    Area(f32),
+    Refused(u8),
+}
+
+// Three chords times the mean width.
+fn curve_area(s: &[f32]) -> f32
+    requires { ⌜ floats ≤ length (now s) ⌝ }
+    ensures { λ r. ⌜ r ≡ areaOf (curveFrom (now (s .entry))) ⌝ }
+{
+    let approx_length = chords(coordinates(s));
+    let avg_width = (width_at(s, s[UMIN]) + width_at(s, s[UMAX])) * 0.5;
+    approx_length * avg_width
+}
+
+pub fn area(curve: &[f32]) -> Measured
+    ensures { λ r. ⌜ r ≡ areaIn (now (curve .entry)) ⌝ }
+{
+    if is_curve(curve) {
+        Measured::Area(curve_area(curve))
+    } else {
+        Measured::Refused(9)
+    }
+}

@@ -1,0 +1,86 @@
+// Boxes: object_bound and world_bound (01: the hall box).
+ghost use mathlib.Core.Path.{_≡_};
+ghost use Prim.Native.Nat.{_≤_};
+ghost use lib.ListN.{length};
+ghost use Rattle.bezier.specs.Coordinates.{cubicOf};
+ghost use Rattle.curve.specs.Layout.{floats, curveFrom};
+ghost use Rattle.measure.specs.Bound.{boxOf, boundOf, objectBound, worldBoundOf, worldBound};
+use bezier::Coordinates;
+use bezier::greatest;
+use bezier::least;
+use curve::UMAX;
+use curve::UMIN;
+use curve::coordinates;
+use curve::is_curve;
+use curve::width_at;
+use geometry::Bounds3f;
+use geometry::Point3f;
+use limits::is_matrix_within;
+use matrix::Matrix4x4;
+use transform::TransformedBounds;
+use transform::transform_bounds;
+
+pub enum Bound {
+    Bounds(Bounds3f),
+    Refused(u8),
+}
+
+// The box of the control points.
+fn box_of(c: Coordinates) -> Bounds3f
+    ensures { λ r. ⌜ r ≡ boxOf (cubicOf c) ⌝ }
+{
+    let p_min = Point3f {
+        x: least(c.x),
+        y: least(c.y),
+        z: least(c.z),
+    };
+    let p_max = Point3f {
+        x: greatest(c.x),
+        y: greatest(c.y),
+        z: greatest(c.z),
+    };
+    Bounds3f { p_min, p_max }
+}
+
+// That box, widened by half the larger end width.
+fn curve_bound(s: &[f32]) -> Bounds3f
+    requires { ⌜ floats ≤ length (now s) ⌝ }
+    ensures { λ r. ⌜ r ≡ boundOf (curveFrom (now (s .entry))) ⌝ }
+{
+    let width = float::max(width_at(s, s[UMIN]), width_at(s, s[UMAX]));
+    box_of(coordinates(s)).expand(width * 0.5)
+}
+
+pub fn object_bound(curve: &[f32]) -> Bound
+    ensures { λ r. ⌜ r ≡ objectBound (now (curve .entry)) ⌝ }
+{
+    if is_curve(curve) {
+        Bound::Bounds(curve_bound(curve))
+    } else {
+        Bound::Refused(9)
+    }
+}
+
+fn world_bound_of(s: &[f32], m: Matrix4x4) -> Bound
+    requires { ⌜ floats ≤ length (now s) ⌝ }
+    ensures { λ r. ⌜ r ≡ worldBoundOf (curveFrom (now (s .entry))) m ⌝ }
+{
+    if is_matrix_within(m) {
+        match transform_bounds(m, curve_bound(s)) {
+            TransformedBounds::Bounds(b) => Bound::Bounds(b),
+            TransformedBounds::ZeroWeight => Bound::Refused(12),
+        }
+    } else {
+        Bound::Refused(10)
+    }
+}
+
+pub fn world_bound(curve: &[f32], object_to_world: Matrix4x4) -> Bound
+    ensures { λ r. ⌜ r ≡ worldBound (now (curve .entry)) «object_to_world» ⌝ }
+{
+    if is_curve(curve) {
+        world_bound_of(curve, object_to_world)
+    } else {
+        Bound::Refused(9)
+    }
+}
