@@ -6,30 +6,30 @@ use Prim.Native.Nat.{ℕ, zero, suc, _^_, _<_}
 use native.Mathlib.Nat.{le-of-suc-le-suc}
 use native.Mathlib.Omega.{arith}
 use Rattle.bisection.specs.Below.{orElse, atOr, choose, bestBelow}
-use Rattle.bisection.specs.Pieces.{piece, isOpen, passesAt, firstOpen, lastOpen, bestOpen, openUpTo}
+use Rattle.bisection.specs.Nodes.{node, isOpen, passesAt, firstOpen, lastOpen, bestOpen, openUpTo}
 use Rattle.bisection.specs.Walk.{walkOf}
 use Rattle.bisection.proofs.Below.{best-last, best-top, fold-best}
-use Rattle.bisection.proofs.Pieces.{reach, before-upTo}
+use Rattle.bisection.proofs.Nodes.{reach, before-upTo}
 use Rattle.bisection.proofs.Walked.{times, onlyIf, leafAt, upTo, Laws, IsStop, stop-is, walk-is}
 
--- What is asked of the leaf's step. `reply n p` is the reply of the leaf p with n pieces counted, `miss n` the one with none, and `beats p q` says that the later p takes the place of q.
-module _ {Piece St : Type 0} (step : Piece → St → St) (enter : St → St) (stops passes : Piece → Bool) (beats : Piece → Piece → Bool) (reply : ℕ → Piece → St) (miss : ℕ → St) (Live : St → Type 0) where
+-- What is asked of the leaf's step. `reply n p` is the reply of the leaf p with n nodes counted, `miss n` the one with none, and `beats p q` says that the later p takes the place of q.
+module _ {Node St : Type 0} (step : Node → St → St) (enter : St → St) (stops passes : Node → Bool) (beats : Node → Node → Bool) (reply : ℕ → Node → St) (miss : ℕ → St) (Live : St → Type 0) where
   pub record Keeps : Type 0 where
     pub live-miss : Live (miss 0)
-    pub skips : (p : Piece) (q : St) → passes p ≡ false → step p q ≡ q
-    pub takes : (p : Piece) → passes p ≡ true → step p (miss 0) ≡ reply 0 p
-    pub chooses : (p q : Piece) → passes q ≡ true → stops q ≡ false → passes p ≡ true → step p (reply 0 q) ≡ reply 0 (cond (beats p q) p q)
-    pub stop-passes : (p : Piece) → stops p ≡ true → passes p ≡ true
-    pub stop-beats : (p q : Piece) → stops p ≡ true → passes q ≡ true → stops q ≡ false → beats p q ≡ true
+    pub skips : (p : Node) (q : St) → passes p ≡ false → step p q ≡ q
+    pub takes : (p : Node) → passes p ≡ true → step p (miss 0) ≡ reply 0 p
+    pub chooses : (p q : Node) → passes q ≡ true → stops q ≡ false → passes p ≡ true → step p (reply 0 q) ≡ reply 0 (cond (beats p q) p q)
+    pub stop-passes : (p : Node) → stops p ≡ true → passes p ≡ true
+    pub stop-beats : (p q : Node) → stops p ≡ true → passes q ≡ true → stops q ≡ false → beats p q ≡ true
     pub enter-miss : (n : ℕ) → enter (miss n) ≡ miss (suc n)
-    pub enter-reply : (n : ℕ) (p : Piece) → enter (reply n p) ≡ reply (suc n) p
+    pub enter-reply : (n : ℕ) (p : Node) → enter (reply n p) ≡ reply (suc n) p
 
-module _ {Piece St : Type 0} (low high : Piece → Piece) (thrown : Piece → Bool) (enter : St → St) (step : Piece → St → St) (over : St → Bool)
-    (stops passes : Piece → Bool) (beats : Piece → Piece → Bool) (reply : ℕ → Piece → St) (miss : ℕ → St) (Live : St → Type 0)
+module _ {Node St : Type 0} (low high : Node → Node) (thrown : Node → Bool) (enter : St → St) (step : Node → St → St) (over : St → Bool)
+    (stops passes : Node → Bool) (beats : Node → Node → Bool) (reply : ℕ → Node → St) (miss : ℕ → St) (Live : St → Type 0)
     (L : Laws enter step over stops Live) (K : Keeps step enter stops passes beats reply miss Live) where
-  module _ (s : Piece) (d : ℕ) where
-    abbrev at : ℕ → Piece
-    at = piece low high s d
+  module _ (s : Node) (d : ℕ) where
+    abbrev at : ℕ → Node
+    at = node low high s d
 
     abbrev pass : ℕ → Bool
     pass = passesAt low high thrown passes true s d
@@ -50,7 +50,7 @@ module _ {Piece St : Type 0} (low high : Piece → Piece) (thrown : Piece → Bo
     Stop = IsStop low high thrown enter step over stops Live L true s d
 
     -- a leaf that passes is open, and passes the test
-    open-pass : (test : Piece → Bool) (j : ℕ) → passesAt low high thrown test true s d j ≡ true → (isOpen low high thrown true s d j ≡ true) × (test (at j) ≡ true)
+    open-pass : (test : Node → Bool) (j : ℕ) → passesAt low high thrown test true s d j ≡ true → (isOpen low high thrown true s d j ≡ true) × (test (at j) ≡ true)
     unfolding passesAt
     open-pass test j e = go (isOpen low high thrown true s d j) e
       where
@@ -59,7 +59,7 @@ module _ {Piece St : Type 0} (low high : Piece → Piece) (thrown : Piece → Bo
         go false e = absurd (false≢true e)
 
     -- an open leaf passes where the test does
-    open-test : (test : Piece → Bool) (j : ℕ) (b : Bool) → isOpen low high thrown true s d j ≡ true → passesAt low high thrown test true s d j ≡ b → test (at j) ≡ b
+    open-test : (test : Node → Bool) (j : ℕ) (b : Bool) → isOpen low high thrown true s d j ≡ true → passesAt low high thrown test true s d j ≡ b → test (at j) ≡ b
     unfolding passesAt
     open-test test j b o e = rw o at e
 
@@ -113,7 +113,7 @@ module _ {Piece St : Type 0} (low high : Piece → Piece) (thrown : Piece → Bo
     pub walk-best :
         let stop = firstOpen low high thrown stops true s d in
         let n = openUpTo low high thrown true s d stop in
-        walkOf low high thrown enter step over d s (miss 0) ≡ atOr (λ i. reply n (piece low high s d i)) (miss n) (orElse stop (bestOpen low high thrown passes beats true s d))
+        walkOf low high thrown enter step over d s (miss 0) ≡ atOr (λ i. reply n (node low high s d i)) (miss n) (orElse stop (bestOpen low high thrown passes beats true s d))
     unfolding upTo
     walk-best =
         let o = firstOpen low high thrown stops true s d in
@@ -125,7 +125,7 @@ module _ {Piece St : Type 0} (low high : Piece → Piece) (thrown : Piece → Bo
         ∙ entries (openUpTo low high thrown true s d o) (orElse o (bestOpen low high thrown passes beats true s d))
 
 -- the best is the last where each leaf beats the ones before it
-module _ {Piece : Type 0} (low high : Piece → Piece) (thrown passes : Piece → Bool) where
-  pub bestOpen-last : (w : Bool) (s : Piece) (d : ℕ) → bestOpen low high thrown passes (λ p q. true) w s d ≡ lastOpen low high thrown passes w s d
+module _ {Node : Type 0} (low high : Node → Node) (thrown passes : Node → Bool) where
+  pub bestOpen-last : (w : Bool) (s : Node) (d : ℕ) → bestOpen low high thrown passes (λ p q. true) w s d ≡ lastOpen low high thrown passes w s d
   unfolding bestOpen lastOpen
   bestOpen-last w s d = best-last (2 ^ d) _

@@ -1,4 +1,4 @@
 pub mod Below
 pub mod Best
-pub mod Pieces
+pub mod Nodes
 pub mod Walked

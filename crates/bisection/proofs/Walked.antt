@@ -1,4 +1,4 @@
--- The walk, by the leaves and the count. Where nothing stops it, it enters every open piece and takes the step of every open leaf, in order; where a leaf stops it, up to there. Assumes nothing.
+-- The walk, by the leaves and the count. Where nothing stops it, it enters every open node and takes the step of every open leaf, in order; where a leaf stops it, up to there. Assumes nothing.
 use mathlib.Core.Bool.{Bool, true, false, not, _&&_, false≢true}
 use mathlib.Core.Option.{Option, none, some}
 use mathlib.Core.Path.{_≡_, refl, sym, ap, _∙_}
@@ -7,10 +7,10 @@ use native.Mathlib.Nat.{le-refl, zero-add, suc-add}
 use native.Mathlib.Omega.{arith}
 use lib.Pow.{pow-pos}
 use Rattle.bisection.specs.Below.{only, orElse, firstBelow}
-use Rattle.bisection.specs.Pieces.{piece, isOpen, passesAt, firstOpen}
-use Rattle.bisection.specs.Walk.{unless, onward, walkOf, halfOf}
+use Rattle.bisection.specs.Nodes.{node, isOpen, passesAt, firstOpen}
+use Rattle.bisection.specs.Walk.{unless, onward, walkOf, halfStepOf}
 use Rattle.bisection.proofs.Below.{foldBelow, fold-ext, fold-split, fold-skips, fold-past, fold-keeps, shift, IsFirst, first-is}
-use Rattle.bisection.proofs.Pieces.{pow-two, reach, reach-shift, piece-low, piece-high, open-shut, open-low, open-high, openBefore, before-none, before-leaf, before-shut, before-split, first-low-high}
+use Rattle.bisection.proofs.Nodes.{pow-two, reach, reach-shift, node-low, node-high, open-shut, open-low, open-high, openBefore, before-none, before-leaf, before-shut, before-split, first-low-high}
 
 -- ---- a function, n times over
 
@@ -41,43 +41,43 @@ onlyIf false f r = r
 
 -- ---- what is asked of a walk: `Live` says of a reply that the walk goes on from it, and `stops` of a leaf that its step ends the walk
 
-module _ {Piece St : Type 0} (enter : St → St) (step : Piece → St → St) (over : St → Bool) (stops : Piece → Bool) (Live : St → Type 0) where
+module _ {Node St : Type 0} (enter : St → St) (step : Node → St → St) (over : St → Bool) (stops : Node → Bool) (Live : St → Type 0) where
   pub record Laws : Type 0 where
     pub live-on : (r : St) → Live r → over r ≡ false
     pub live-enter : (r : St) → Live r → Live (enter r)
-    pub live-step : (p : Piece) (r : St) → Live r → stops p ≡ false → Live (step p r)
-    pub over-step : (p : Piece) (r : St) → Live r → stops p ≡ true → over (step p r) ≡ true
+    pub live-step : (p : Node) (r : St) → Live r → stops p ≡ false → Live (step p r)
+    pub over-step : (p : Node) (r : St) → Live r → stops p ≡ true → over (step p r) ≡ true
     pub over-enter : (r : St) → over (enter r) ≡ over r
-    pub step-enter : (p : Piece) (r : St) → step p (enter r) ≡ enter (step p r)
+    pub step-enter : (p : Node) (r : St) → step p (enter r) ≡ enter (step p r)
 
-module _ {Piece St : Type 0} (low high : Piece → Piece) (thrown : Piece → Bool) (enter : St → St) (step : Piece → St → St) where
+module _ {Node St : Type 0} (low high : Node → Node) (thrown : Node → Bool) (enter : St → St) (step : Node → St → St) where
   -- the step of the leaf j, where it is open
-  abbrev pub leafAt : Bool → Piece → ℕ → ℕ → St → St
-  leafAt w s d j r = onlyIf (isOpen low high thrown w s d j) (step (piece low high s d j)) r
+  abbrev pub leafAt : Bool → Node → ℕ → ℕ → St → St
+  leafAt w s d j r = onlyIf (isOpen low high thrown w s d j) (step (node low high s d j)) r
 
-  -- the steps of the open leaves below m, and an entry for each open piece that starts there
-  unfoldable pub upTo : Bool → Piece → ℕ → ℕ → St → St
+  -- the steps of the open leaves below m, and an entry for each open node that starts there
+  unfoldable pub upTo : Bool → Node → ℕ → ℕ → St → St
   upTo w s d m r = times (openBefore low high thrown w s d m) enter (foldBelow m (leafAt w s d) r)
 
-  upTo-none : (w : Bool) (s : Piece) (d : ℕ) (r : St) → upTo w s d 0 r ≡ r
+  upTo-none : (w : Bool) (s : Node) (d : ℕ) (r : St) → upTo w s d 0 r ≡ r
   unfolding upTo times foldBelow
   upTo-none w s d r = rw before-none
 
-  upTo-one : (s : Piece) (r : St) → upTo true s 0 1 r ≡ enter (step s r)
-  unfolding upTo times foldBelow isOpen piece
+  upTo-one : (s : Node) (r : St) → upTo true s 0 1 r ≡ enter (step s r)
+  unfolding upTo times foldBelow isOpen node
   upTo-one s r = rw before-leaf
 
-  upTo-shut : (s : Piece) (d m : ℕ) (r : St) → upTo false s d m r ≡ r
+  upTo-shut : (s : Node) (d m : ℕ) (r : St) → upTo false s d m r ≡ r
   unfolding upTo times
   upTo-shut s d m r = rw before-shut (fold-skips m (leafAt false s d) r (λ j q. rw (open-shut low high thrown s d j)))
 
-  leafAt-low : (w : Bool) (s : Piece) (d j : ℕ) (q : St) → j < 2 ^ d → leafAt w s (suc d) j q ≡ leafAt (w && not (thrown (low s))) (low s) d j q
-  leafAt-low w s d j q l = rw (open-low low high thrown w s d j l, piece-low low high s d j l)
+  leafAt-low : (w : Bool) (s : Node) (d j : ℕ) (q : St) → j < 2 ^ d → leafAt w s (suc d) j q ≡ leafAt (w && not (thrown (low s))) (low s) d j q
+  leafAt-low w s d j q l = rw (open-low low high thrown w s d j l, node-low low high s d j l)
 
-  leafAt-high : (w : Bool) (s : Piece) (d i j : ℕ) (q : St) → i ≡ 2 ^ d → j < 2 ^ d → leafAt w s (suc d) (i + j) q ≡ leafAt (w && not (thrown (high s))) (high s) d j q
-  leafAt-high w s d i j q e l = rw (e, open-high low high thrown w s d j l, piece-high low high s d j l)
+  leafAt-high : (w : Bool) (s : Node) (d i j : ℕ) (q : St) → i ≡ 2 ^ d → j < 2 ^ d → leafAt w s (suc d) (i + j) q ≡ leafAt (w && not (thrown (high s))) (high s) d j q
+  leafAt-high w s d i j q e l = rw (e, open-high low high thrown w s d j l, node-high low high s d j l)
 
-  leaves-split : (w : Bool) (s : Piece) (d m : ℕ) (r : St) → m ≤ 2 ^ suc d →
+  leaves-split : (w : Bool) (s : Node) (d m : ℕ) (r : St) → m ≤ 2 ^ suc d →
       foldBelow m (leafAt w s (suc d)) r
       ≡ foldBelow (m - 2 ^ d) (leafAt (w && not (thrown (high s))) (high s) d) (foldBelow (min m (2 ^ d)) (leafAt (w && not (thrown (low s))) (low s) d) r)
   leaves-split w s d m r le =
@@ -87,19 +87,19 @@ module _ {Piece St : Type 0} (low high : Piece → Piece) (thrown : Piece → Bo
       ∙ fold-ext (m - 2 ^ d) _ (leafAt (w && not (thrown (high s))) (high s) d) _ (λ j l q. leafAt-high w s d (min m (2 ^ d)) j q (omega arith) (omega arith))
       ∙ ap (foldBelow (m - 2 ^ d) _) (fold-ext (min m (2 ^ d)) _ _ r (λ j l q. leafAt-low w s d j q (omega arith)))
 
-  module _ (step-enter : (p : Piece) (r : St) → step p (enter r) ≡ enter (step p r)) where
-    leafAt-enter : (w : Bool) (s : Piece) (d j : ℕ) (r : St) → leafAt w s d j (enter r) ≡ enter (leafAt w s d j r)
+  module _ (step-enter : (p : Node) (r : St) → step p (enter r) ≡ enter (step p r)) where
+    leafAt-enter : (w : Bool) (s : Node) (d j : ℕ) (r : St) → leafAt w s d j (enter r) ≡ enter (leafAt w s d j r)
     leafAt-enter w s d j r = go (isOpen low high thrown w s d j)
       where
-        go : (b : Bool) → onlyIf b (step (piece low high s d j)) (enter r) ≡ enter (onlyIf b (step (piece low high s d j)) r)
+        go : (b : Bool) → onlyIf b (step (node low high s d j)) (enter r) ≡ enter (onlyIf b (step (node low high s d j)) r)
         go true = step-enter _ r
         go false = refl
 
     -- the steps of the leaves below m go past n entries
-    leaves-past : (w : Bool) (s : Piece) (d m n : ℕ) (r : St) → foldBelow m (leafAt w s d) (times n enter r) ≡ times n enter (foldBelow m (leafAt w s d) r)
+    leaves-past : (w : Bool) (s : Node) (d m n : ℕ) (r : St) → foldBelow m (leafAt w s d) (times n enter r) ≡ times n enter (foldBelow m (leafAt w s d) r)
     leaves-past w s d m n r = times-past n enter (foldBelow m (leafAt w s d)) (fold-past m enter (leafAt w s d) (leafAt-enter w s d)) r
 
-    upTo-split : (s : Piece) (d m : ℕ) (r : St) → 0 < m → m ≤ 2 ^ suc d →
+    upTo-split : (s : Node) (d m : ℕ) (r : St) → 0 < m → m ≤ 2 ^ suc d →
         upTo true s (suc d) m r ≡ upTo (not (thrown (high s))) (high s) d (m - 2 ^ d) (upTo (not (thrown (low s))) (low s) d (min m (2 ^ d)) (enter r))
     unfolding upTo
     upTo-split s d m r pos le =
@@ -113,7 +113,7 @@ module _ {Piece St : Type 0} (low high : Piece → Piece) (thrown : Piece → Bo
         (times-joined _ _ enter _)
 
     -- the leaves below m are the low half's
-    upTo-low : (s : Piece) (d m : ℕ) (r : St) → 0 < m → m ≤ 2 ^ d → upTo true s (suc d) m r ≡ upTo (not (thrown (low s))) (low s) d m (enter r)
+    upTo-low : (s : Node) (d m : ℕ) (r : St) → 0 < m → m ≤ 2 ^ d → upTo true s (suc d) m r ≡ upTo (not (thrown (low s))) (low s) d m (enter r)
     upTo-low s d m r pos le =
         let two = pow-two d in
         let e : m - 2 ^ d ≡ 0 = omega arith in
@@ -121,7 +121,7 @@ module _ {Piece St : Type 0} (low high : Piece → Piece) (thrown : Piece → Bo
         upTo-split s d m r pos (omega arith) ∙ rw (e, e′) (upTo-none _ _ _ _)
 
     -- they are the low half's, all of them, and m of the high half's
-    upTo-high : (s : Piece) (d m : ℕ) (r : St) → m ≤ 2 ^ d →
+    upTo-high : (s : Node) (d m : ℕ) (r : St) → m ≤ 2 ^ d →
         upTo true s (suc d) (2 ^ d + m) r ≡ upTo (not (thrown (high s))) (high s) d m (upTo (not (thrown (low s))) (low s) d (2 ^ d) (enter r))
     upTo-high s d m r le =
         let two = pow-two d in
@@ -131,14 +131,14 @@ module _ {Piece St : Type 0} (low high : Piece → Piece) (thrown : Piece → Bo
         upTo-split s d (2 ^ d + m) r (omega arith) (omega arith) ∙ rw (e, e′)
 
   -- ---- the walk
-  module _ (over : St → Bool) (stops : Piece → Bool) (Live : St → Type 0) (L : Laws enter step over stops Live) where
-    abbrev pub stopOf : Bool → Piece → ℕ → Option ℕ
+  module _ (over : St → Bool) (stops : Node → Bool) (Live : St → Type 0) (L : Laws enter step over stops Live) where
+    abbrev pub stopOf : Bool → Node → ℕ → Option ℕ
     stopOf w s d = firstOpen low high thrown stops w s d
 
-    abbrev pub IsStop : Bool → Piece → ℕ → Option ℕ → Type 0
+    abbrev pub IsStop : Bool → Node → ℕ → Option ℕ → Type 0
     IsStop w s d o = IsFirst (2 ^ d) (passesAt low high thrown stops w s d) o
 
-    pub stop-is : (w : Bool) (s : Piece) (d : ℕ) → IsStop w s d (stopOf w s d)
+    pub stop-is : (w : Bool) (s : Node) (d : ℕ) → IsStop w s d (stopOf w s d)
     unfolding firstOpen
     stop-is w s d = first-is (2 ^ d) (passesAt low high thrown stops w s d)
 
@@ -152,33 +152,33 @@ module _ {Piece St : Type 0} (low high : Piece → Piece) (thrown : Piece → Bo
     entries-over zero r = refl
     entries-over (suc n) r = L .over-enter _ ∙ entries-over n r
 
-    leafAt-live : (w : Bool) (s : Piece) (d j : ℕ) (q : St) → passesAt low high thrown stops w s d j ≡ false → Live q → Live (leafAt w s d j q)
+    leafAt-live : (w : Bool) (s : Node) (d j : ℕ) (q : St) → passesAt low high thrown stops w s d j ≡ false → Live q → Live (leafAt w s d j q)
     unfolding passesAt
     leafAt-live w s d j q e l = go (isOpen low high thrown w s d j) e
       where
-        go : (b : Bool) → b && stops (piece low high s d j) ≡ false → Live (onlyIf b (step (piece low high s d j)) q)
+        go : (b : Bool) → b && stops (node low high s d j) ≡ false → Live (onlyIf b (step (node low high s d j)) q)
         go true e = L .live-step _ q l e
         go false e = l
 
-    leafAt-over : (w : Bool) (s : Piece) (d j : ℕ) (q : St) → passesAt low high thrown stops w s d j ≡ true → Live q → over (leafAt w s d j q) ≡ true
+    leafAt-over : (w : Bool) (s : Node) (d j : ℕ) (q : St) → passesAt low high thrown stops w s d j ≡ true → Live q → over (leafAt w s d j q) ≡ true
     unfolding passesAt
     leafAt-over w s d j q e l = go (isOpen low high thrown w s d j) e
       where
-        go : (b : Bool) → b && stops (piece low high s d j) ≡ true → over (onlyIf b (step (piece low high s d j)) q) ≡ true
+        go : (b : Bool) → b && stops (node low high s d j) ≡ true → over (onlyIf b (step (node low high s d j)) q) ≡ true
         go true e = L .over-step _ q l e
         go false e = absurd (false≢true e)
 
     -- the reply where the leaves have been walked: live where none of them stops, and over where the last does
-    upTo-live : (w : Bool) (s : Piece) (d : ℕ) (r : St) → IsStop w s d none → Live r → Live (upTo w s d (2 ^ d) r)
+    upTo-live : (w : Bool) (s : Node) (d : ℕ) (r : St) → IsStop w s d none → Live r → Live (upTo w s d (2 ^ d) r)
     unfolding upTo
     upTo-live w s d r h l = entries-live _ _ (fold-keeps Live (2 ^ d) (leafAt w s d) r (λ j lt q lq. leafAt-live w s d j q (h j lt) lq) l)
 
-    upTo-over : (w : Bool) (s : Piece) (d i : ℕ) (r : St) → IsStop w s d (some i) → Live r → over (upTo w s d (suc i) r) ≡ true
+    upTo-over : (w : Bool) (s : Node) (d i : ℕ) (r : St) → IsStop w s d (some i) → Live r → over (upTo w s d (suc i) r) ≡ true
     unfolding upTo foldBelow
     upTo-over w s d i r h l =
         entries-over _ _ ∙ leafAt-over w s d i _ (h .1) (fold-keeps Live i (leafAt w s d) r (λ j lt q lq. leafAt-live w s d j q (h .2 j lt) lq) l)
 
-    reach-le : (w : Bool) (s : Piece) (d : ℕ) → reach (2 ^ d) (stopOf w s d) ≤ 2 ^ d
+    reach-le : (w : Bool) (s : Node) (d : ℕ) → reach (2 ^ d) (stopOf w s d) ≤ 2 ^ d
     reach-le w s d = go (stopOf w s d) (stop-is w s d)
       where
         go : (o : Option ℕ) → IsStop w s d o → reach (2 ^ d) o ≤ 2 ^ d
@@ -186,7 +186,7 @@ module _ {Piece St : Type 0} (low high : Piece → Piece) (thrown : Piece → Bo
         go (some i) h = h .0
 
     -- of one leaf, that one is reached
-    reach-one : (s : Piece) → reach (2 ^ 0) (stopOf true s 0) ≡ 1
+    reach-one : (s : Node) → reach (2 ^ 0) (stopOf true s 0) ≡ 1
     unfolding firstOpen firstBelow
     reach-one s = go (passesAt low high thrown stops true s 0 0)
       where
@@ -195,13 +195,13 @@ module _ {Piece St : Type 0} (low high : Piece → Piece) (thrown : Piece → Bo
         go false = refl
 
     -- what is to be shown of a walk, and of a half step
-    abbrev pub WalkIs : ℕ → Piece → Type 0
+    abbrev pub WalkIs : ℕ → Node → Type 0
     WalkIs d s = (r : St) → Live r → walkOf low high thrown enter step over d s r ≡ upTo true s d (reach (2 ^ d) (stopOf true s d)) r
 
-    abbrev pub HalfIs : ℕ → Piece → Type 0
-    HalfIs d s = (r : St) → Live r → halfOf low high thrown enter step over d s r ≡ upTo (not (thrown s)) s d (reach (2 ^ d) (stopOf (not (thrown s)) s d)) r
+    abbrev pub HalfIs : ℕ → Node → Type 0
+    HalfIs d s = (r : St) → Live r → halfStepOf low high thrown enter step over d s r ≡ upTo (not (thrown s)) s d (reach (2 ^ d) (stopOf (not (thrown s)) s d)) r
 
-    half-is : (d : ℕ) (s : Piece) → WalkIs d s → HalfIs d s
+    half-is : (d : ℕ) (s : Node) → WalkIs d s → HalfIs d s
     half-is d s h r l = go (thrown s)
       where
         go : (b : Bool) → unless b (walkOf low high thrown enter step over d s) r ≡ upTo (not b) s d (reach (2 ^ d) (stopOf (not b) s d)) r
@@ -209,8 +209,8 @@ module _ {Piece St : Type 0} (low high : Piece → Piece) (thrown : Piece → Bo
         go false = h r l
 
     -- the low half has been walked, and stopped or not
-    after-low : (d : ℕ) (s : Piece) (r : St) → Live r → HalfIs d (high s) → (o : Option ℕ) → IsStop (not (thrown (low s))) (low s) d o →
-        onward over (halfOf low high thrown enter step over d (high s)) (upTo (not (thrown (low s))) (low s) d (reach (2 ^ d) o) (enter r))
+    after-low : (d : ℕ) (s : Node) (r : St) → Live r → HalfIs d (high s) → (o : Option ℕ) → IsStop (not (thrown (low s))) (low s) d o →
+        onward over (halfStepOf low high thrown enter step over d (high s)) (upTo (not (thrown (low s))) (low s) d (reach (2 ^ d) o) (enter r))
         ≡ upTo true s (suc d) (reach (2 ^ suc d) (orElse o (shift (2 ^ d) (stopOf (not (thrown (high s))) (high s) d)))) r
     after-low d s r l high-is none h =
         let on = upTo-live (not (thrown (low s))) (low s) d (enter r) h (L .live-enter r l) in
@@ -219,7 +219,7 @@ module _ {Piece St : Type 0} (low high : Piece → Piece) (thrown : Piece → Bo
     after-low d s r l high-is (some i) h =
         rw (upTo-over (not (thrown (low s))) (low s) d i (enter r) h (L .live-enter r l)) (sym (upTo-low (L .step-enter) s d (suc i) r (omega arith) (h .0)))
 
-    pub walk-is : (d : ℕ) (s : Piece) → WalkIs d s
+    pub walk-is : (d : ℕ) (s : Node) → WalkIs d s
     unfolding walkOf
     walk-is zero s r l = rw reach-one (L .step-enter s r ∙ sym (upTo-one s r))
     walk-is (suc d) s r l =
@@ -228,21 +228,21 @@ module _ {Piece St : Type 0} (low high : Piece → Piece) (thrown : Piece → Bo
 
 -- ---- how much a walk of d cuts can add to a count: less than 2 ^ (d + 1)
 
-module _ {Piece St : Type 0} (low high : Piece → Piece) (thrown : Piece → Bool) (enter : St → St) (step : Piece → St → St) (over : St → Bool) (size : St → ℕ)
-    (enter-size : (r : St) → size (enter r) ≤ size r + 1) (step-size : (p : Piece) (r : St) → size (step p r) ≤ size r) where
+module _ {Node St : Type 0} (low high : Node → Node) (thrown : Node → Bool) (enter : St → St) (step : Node → St → St) (over : St → Bool) (size : St → ℕ)
+    (enter-size : (r : St) → size (enter r) ≤ size r + 1) (step-size : (p : Node) (r : St) → size (step p r) ≤ size r) where
   unless-size : (b : Bool) (f : St → St) (r : St) (n : ℕ) → size (f r) < size r + n → 0 < n → size (unless b f r) < size r + n
   unless-size true f r n h pos = omega arith
   unless-size false f r n h pos = h
 
-  pub walk-size : (d : ℕ) (s : Piece) (r : St) → size (walkOf low high thrown enter step over d s r) < size r + 2 ^ suc d
+  pub walk-size : (d : ℕ) (s : Node) (r : St) → size (walkOf low high thrown enter step over d s r) < size r + 2 ^ suc d
   unfolding walkOf
   walk-size zero s r = omega (arith, step-size s (enter r), enter-size r)
   walk-size (suc d) s r =
-      let q = halfOf low high thrown enter step over d (low s) (enter r) in
+      let q = halfStepOf low high thrown enter step over d (low s) (enter r) in
       let lows = unless-size (thrown (low s)) (walkOf low high thrown enter step over d (low s)) (enter r) (2 ^ suc d) (walk-size d (low s) (enter r)) (pow-pos (suc d)) in
       let highs = unless-size (thrown (high s)) (walkOf low high thrown enter step over d (high s)) q (2 ^ suc d) (walk-size d (high s) q) (pow-pos (suc d)) in
-      let both = unless-size (over q) (halfOf low high thrown enter step over d (high s)) q (2 ^ suc d) highs (pow-pos (suc d)) in
+      let both = unless-size (over q) (halfStepOf low high thrown enter step over d (high s)) q (2 ^ suc d) highs (pow-pos (suc d)) in
       omega (arith, lows, both, enter-size r, pow-two (suc d))
 
-  pub half-size : (d : ℕ) (s : Piece) (r : St) → size (halfOf low high thrown enter step over d s r) < size r + 2 ^ suc d
+  pub half-size : (d : ℕ) (s : Node) (r : St) → size (halfStepOf low high thrown enter step over d s r) < size r + 2 ^ suc d
   half-size d s r = unless-size (thrown s) (walkOf low high thrown enter step over d s) r (2 ^ suc d) (walk-size d s r) (pow-pos (suc d))

@@ -1,3 +1,3 @@
 pub mod Below
-pub mod Pieces
+pub mod Nodes
 pub mod Walk

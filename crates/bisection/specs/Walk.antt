@@ -1,5 +1,5 @@
--- The walk through the pieces, as code goes: a piece is entered, and its halves that are not thrown out are walked in turn, unless the reply is over.
--- Definitions only, for any piece, test, leaf and reply. No contract of a public function cites them: they serve the functions that walk.
+-- The walk through the nodes, as code goes: a node is entered, and its halves that are not thrown out are walked in turn, unless the reply is over.
+-- Definitions only, for any node, test, leaf and reply. No contract of a public function cites them: they serve the functions that walk.
 use mathlib.Core.Bool.{Bool, true, false}
 use Prim.Native.Nat.{ℕ, zero, suc}
 
@@ -12,10 +12,10 @@ unless false f r = f r
 abbrev pub onward : {A : Type 0} → (A → Bool) → (A → A) → A → A
 onward over f q = unless (over q) f q
 
-module _ {Piece St : Type 0} (low high : Piece → Piece) (thrown : Piece → Bool) (enter : St → St) (step : Piece → St → St) (over : St → Bool) where
-  unfoldable pub walkOf : ℕ → Piece → St → St
+module _ {Node St : Type 0} (low high : Node → Node) (thrown : Node → Bool) (enter : St → St) (step : Node → St → St) (over : St → Bool) where
+  unfoldable pub walkOf : ℕ → Node → St → St
   walkOf zero s r = step s (enter r)
   walkOf (suc d) s r = onward over (unless (thrown (high s)) (walkOf d (high s))) (unless (thrown (low s)) (walkOf d (low s)) (enter r))
 
-  abbrev pub halfOf : ℕ → Piece → St → St
-  halfOf d s = unless (thrown s) (walkOf d s)
+  abbrev pub halfStepOf : ℕ → Node → St → St
+  halfStepOf d s = unless (thrown s) (walkOf d s)

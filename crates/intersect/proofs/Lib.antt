@@ -1,3 +1,3 @@
-pub mod Law
+pub mod ReplySays
 mod Flat
 mod Steps

@@ -8,24 +8,23 @@ use native.Mathlib.Omega.{arith}
 use lib.Ieee.{Float}
 use lib.Pow.{pow-pos}
 use Rattle.bisection.specs.Walk.{onward, walkOf}
-use Rattle.bisection.proofs.Pieces.{pow-two}
+use Rattle.bisection.proofs.Nodes.{pow-two}
 use Rattle.bisection.proofs.Walked.{half-size}
-use Rattle.curve.specs.Layout.{curveFrom}
 use Rattle.curve.specs.declared.curve.Curve.{Curve}
-use Rattle.segment.specs.declared.frame.Context.{Context}
-use Rattle.segment.specs.declared.halves.Segment.{Segment}
-use Rattle.segment.specs.declared.halves.Halves.{Halves}
-use Rattle.segment.specs.declared.leaf.Crossing.{Crossing}
-use Rattle.segment.specs.declared.leaf.Frame.{Frame}
-use Rattle.segment.specs.declared.leaf.Leaf.{Leaf}
-use Rattle.segment.specs.declared.leaf.Leaf.the-variants.{Passes, Fails, NoFrame}
-use Rattle.segment.specs.Found.{foundFloats}
-use Rattle.segment.proofs.Law.{crossing-back, frame-back}
+use Rattle.frame.specs.declared.frame.View.{View}
+use Rattle.overlap.specs.declared.subcurve.Subcurve.{Subcurve}
+use Rattle.overlap.specs.declared.subcurve.Halves.{Halves}
+use Rattle.overlap.specs.Subcurve.{lowHalf, highHalf, halvesOf}
+use Rattle.overlap.specs.Thrown.{halfWidth, isThrownBy, isThrown}
+use Rattle.leaf.specs.declared.leaf.Crossing.{Crossing}
+use Rattle.leaf.specs.declared.leaf.Frame.{Frame}
+use Rattle.leaf.specs.declared.leaf.Leaf.{Leaf}
+use Rattle.leaf.specs.declared.leaf.Leaf.the-variants.{Passes, Fails, NoFrame}
+use Rattle.leaf.specs.Found.{distanceFrom, foundFloats}
+use Rattle.leaf.specs.Leaf.{leafOf}
+use Rattle.leaf.proofs.FoundBack.{crossing-back, frame-back}
 use Rattle.intersect.specs.declared.walk.Walked.{Walked}
-use Rattle.intersect.specs.declared.walk.Walked.the-variants.{Hit}
-use Rattle.segment.specs.Halves.{lowHalf, highHalf, halvesOf, halfWidth, isThrownBy, isThrown}
-use Rattle.segment.specs.Fixed.{zmaxFrom, contextFrom}
-use Rattle.segment.specs.Leaf.{leafOf}
+use Rattle.intersect.specs.declared.walk.Walked.the-variants.{Hit, Refused}
 use Rattle.intersect.specs.Intersect.{stops}
 use Rattle.intersect.specs.Walk.{Reached, entered, later, settled, isOver, walkIn, halfIn, lastIn, reached}
 
@@ -53,33 +52,33 @@ level-below (suc d) f = let e : suc d - 1 ≡ d = omega arith in rw e (sym (pow-
 pub room-low : (d n : ℕ) → (d ≡ 0 → ⊥) → n + 2 ^ suc d ≤ 2 ^ 32 → n + 1 + 2 ^ suc (d - 1) ≤ 2 ^ 32
 room-low d n f h = omega (arith, level-below d f, pow-pos (suc (d - 1)))
 
-pub room-high : (c : Context) (p : Segment) (d n m : ℕ) (l x : List Float) (r q : Walked) → (d ≡ 0 → ⊥) → n + 2 ^ suc d ≤ 2 ^ 32
-    → reached q x m ≡ halfIn c (d - 1) p (reached r l (n + 1)) → m + 2 ^ suc (d - 1) ≤ 2 ^ 32
+pub room-high : (c : Curve) (v : View) (p : Subcurve) (d n m : ℕ) (l x : List Float) (r q : Walked) → (d ≡ 0 → ⊥) → n + 2 ^ suc d ≤ 2 ^ 32
+    → reached q x m ≡ halfIn c v (d - 1) p (reached r l (n + 1)) → m + 2 ^ suc (d - 1) ≤ 2 ^ 32
 unfolding halfIn reached
-room-high c p d n m l x r q f h e =
-    let grown = half-size lowHalf highHalf (isThrown (c .curve) (c .zmax)) entered (λ s. settled (leafOf c s)) isOver sizeOf entered-size (λ s. settled-size (leafOf c s)) (d - 1) p (reached r l (n + 1)) in
+room-high c v p d n m l x r q f h e =
+    let grown = half-size lowHalf highHalf (isThrown c (v .zmax)) entered (λ s. settled (leafOf c v s)) isOver sizeOf entered-size (λ s. settled-size (leafOf c v s)) (d - 1) p (reached r l (n + 1)) in
     omega (arith, level-below d f, ap sizeOf e, grown)
 
 -- ---- the returns
 
-module _ (l : List Float) (flip : Bool) (s : Segment) (d : ℕ) (k : Curve) (w z : Float) (b : Bool)
-    (curve : k ≡ curveFrom l) (wide : w ≡ halfWidth k (s .u0) (s .u1)) (limit : z ≡ zmaxFrom l) (tested : b ≡ isThrownBy w z s) where
-  is-tested : isThrown (contextFrom l flip .curve) (contextFrom l flip .zmax) s ≡ b
-  unfolding contextFrom isThrown
+module _ (c : Curve) (v : View) (s : Subcurve) (d : ℕ) (w z : Float) (b : Bool)
+    (wide : w ≡ halfWidth c (s .u0) (s .u1)) (limit : z ≡ v .zmax) (tested : b ≡ isThrownBy w z s) where
+  is-tested : isThrown c (v .zmax) s ≡ b
+  unfolding isThrown
   is-tested = cc
 
-  pub half-out : b ≡ true → (r : Reached) → r ≡ halfIn (contextFrom l flip) d s r
+  pub half-out : b ≡ true → (r : Reached) → r ≡ halfIn c v d s r
   unfolding halfIn
   half-out t r = rw (is-tested, t)
 
-  pub half-in : b ≡ false → (q r : Reached) → q ≡ walkIn (contextFrom l flip) d s r → q ≡ halfIn (contextFrom l flip) d s r
+  pub half-in : b ≡ false → (q r : Reached) → q ≡ walkIn c v d s r → q ≡ halfIn c v d s r
   unfolding halfIn walkIn
   half-in t q r e = rw (is-tested, t) e
 
-pub walk-ends : (l : List Float) (flip : Bool) (s : Segment) (d n : ℕ) (r q : Walked) (x y : List Float) (c : Context) (a : Leaf) → d ≡ 0 → c ≡ contextFrom l flip → a ≡ leafOf c s
-    → lastIn q y ≡ later a (lastIn r x) → reached q y (n + 1) ≡ walkIn (contextFrom l flip) d s (reached r x n)
+pub walk-ends : (c : Curve) (v : View) (s : Subcurve) (d n : ℕ) (r q : Walked) (x y : List Float) (a : Leaf) → d ≡ 0 → a ≡ leafOf c v s
+    → lastIn q y ≡ later a (lastIn r x) → reached q y (n + 1) ≡ walkIn c v d s (reached r x n)
 unfolding walkIn walkOf settled entered reached
-walk-ends l flip s d n r q x y c a z k v w = rw (w, v, k, z)
+walk-ends c v s d n r q x y a z k w = rw (w, k, z)
 
 -- ---- what `settle` writes
 
@@ -89,8 +88,8 @@ settle-hit l before at f x e k = rw (e, k, crossing-back, frame-back)
 pub settle-none : (l before : Leaf) → l ≡ Fails → before ≡ later l before
 settle-none l before e = rw e
 
-pub settle-refused : (l before : Leaf) (k : ℕ) (t : Float) → l ≡ NoFrame k t → NoFrame k t ≡ later l before
-settle-refused l before k t e = rw e
+pub settle-refused : (l before : Leaf) (k : ℕ) (t : Float) (x : List Float) → l ≡ NoFrame k t → distanceFrom x ≡ t → lastIn (Refused k) x ≡ later l before
+settle-refused l before k t x e h = rw (e, h)
 
 -- the count goes up by one
 pub one-more : (r : Walked) (l : List Float) (n : ℕ) → reached r l (n + 1) ≡ entered (reached r l n)
@@ -102,26 +101,26 @@ unfolding isOver reached
 over-is r l n b e = e
 
 -- the two halves of a walk that is not at its end
-walk-cuts : (c : Context) (s : Segment) (d : ℕ) (r : Reached) → (d ≡ 0 → ⊥) → walkIn c d s r ≡ onward isOver (halfIn c (d - 1) (highHalf s)) (halfIn c (d - 1) (lowHalf s) (entered r))
+walk-cuts : (c : Curve) (v : View) (s : Subcurve) (d : ℕ) (r : Reached) → (d ≡ 0 → ⊥) → walkIn c v d s r ≡ onward isOver (halfIn c v (d - 1) (highHalf s)) (halfIn c v (d - 1) (lowHalf s) (entered r))
 unfolding walkIn halfIn walkOf
-walk-cuts c s zero r f = absurd (f refl)
-walk-cuts c s (suc d) r f = let e : suc d - 1 ≡ d = omega arith in rw e
+walk-cuts c v s zero r f = absurd (f refl)
+walk-cuts c v s (suc d) r f = let e : suc d - 1 ≡ d = omega arith in rw e
 
-module _ (c : Context) (s : Segment) (h : Halves) (d : ℕ) (r e q : Reached) (b : Bool)
-    (cut : d ≡ 0 → ⊥) (counted : e ≡ entered r) (halved : h ≡ halvesOf s) (first : q ≡ halfIn c (d - 1) (h .low) e) (over : b ≡ isOver q) where
+module _ (c : Curve) (v : View) (s : Subcurve) (h : Halves) (d : ℕ) (r e q : Reached) (b : Bool)
+    (cut : d ≡ 0 → ⊥) (counted : e ≡ entered r) (halved : h ≡ halvesOf s) (first : q ≡ halfIn c v (d - 1) (h .low) e) (over : b ≡ isOver q) where
   -- the walk of the low half
-  low-walked : halfIn c (d - 1) (lowHalf s) (entered r) ≡ q
+  low-walked : halfIn c v (d - 1) (lowHalf s) (entered r) ≡ q
   unfolding halvesOf
   low-walked = let low : h .low ≡ lowHalf s = ap (λ (x : Halves). x .low) halved in cc
 
-  pub walk-stops : b ≡ true → q ≡ walkIn c d s r
+  pub walk-stops : b ≡ true → q ≡ walkIn c v d s r
   walk-stops t =
       let o : isOver q ≡ true = cc in
-      rw (walk-cuts c s d r cut, low-walked, o)
+      rw (walk-cuts c v s d r cut, low-walked, o)
 
-  pub walk-goes : b ≡ false → (q′ : Reached) → q′ ≡ halfIn c (d - 1) (h .high) q → q′ ≡ walkIn c d s r
+  pub walk-goes : b ≡ false → (q′ : Reached) → q′ ≡ halfIn c v (d - 1) (h .high) q → q′ ≡ walkIn c v d s r
   unfolding halvesOf
   walk-goes t q′ w =
       let high : h .high ≡ highHalf s = ap (λ (x : Halves). x .high) halved in
       let o : isOver q ≡ false = cc in
-      rw (walk-cuts c s d r cut, low-walked, o) (cc)
+      rw (walk-cuts c v s d r cut, low-walked, o) (cc)

@@ -1,34 +1,36 @@
--- The reply of `intersect` (01: Beam; Cutting and walking; Hit), by the segments of the curve and not by the walk. Definitions only.
--- Level k has the segments (k, 0) to (k, 2 ^ k - 1): the whole is (0, 0), and (k + 1, j) is a half of (k, j / 2), the half at umin where j is even.
--- The segments of level d are the leaves (01: slivers).
+-- The reply of `intersect` (01: Beam; Cutting and walking; Hit), by the subcurves and not by the walk. Definitions only.
+-- Level k has the subcurves (k, 0) to (k, 2 ^ k - 1): the whole is (0, 0), and (k + 1, j) is a half of (k, j / 2), the half at umin where j is even.
+-- The subcurves of level d are the leaves (01: slivers). Which are open, which pass and which is the stop follows from the curve, the view and
+-- the whole alone: the ray's time and the flag come in with the record.
 use mathlib.Core.Bool.{Bool, true, false, not, _&&_}
 use mathlib.Core.List.{List, [], _∷_}
 use mathlib.Core.Option.{Option}
 use Prim.Native.Nat.{ℕ}
-use lib.Ieee.{Float, eq, le}
+use lib.Ieee.{Float, eq}
 use Rattle.float.specs.Arith.{0f}
 use Rattle.geometry.specs.declared.ray.Ray.{Ray}
 use Rattle.matrix.specs.declared.Matrix4x4.{Matrix4x4}
-use Rattle.curve.specs.declared.curve.Curve.{Curve}
-use Rattle.limits.specs.Within.{largest, matrixWithin}
-use Rattle.limits.specs.Within.{within}
-use Rattle.curve.specs.Curve.{isCurve}
-use Rattle.curve.specs.Layout.{curveFrom}
 use Rattle.limits.specs.Refusal.{Table, firstOf, told}
+use Rattle.limits.specs.Within.{matrixWithin, rayWithin}
 use Rattle.bisection.specs.Below.{orElse, atOr}
-use Rattle.bisection.specs.Pieces.{piece, isOpen, openUpTo, firstOpen, lastOpen}
+use Rattle.bisection.specs.Nodes.{node, isOpen, openUpTo, firstOpen, lastOpen}
+use Rattle.curve.specs.declared.curve.Curve.{Curve}
+use Rattle.curve.specs.Layout.{curveFrom}
+use Rattle.curve.specs.Curve.{isCurve}
+use Rattle.frame.specs.declared.frame.View.{View}
+use Rattle.frame.specs.declared.frame.Framed.{Framed}
+use Rattle.frame.specs.declared.frame.Framed.the-variants as framed
+use Rattle.frame.specs.Frame.{framedCurve}
+use Rattle.overlap.specs.declared.subcurve.Subcurve.{Subcurve}
+use Rattle.overlap.specs.Depth.{depthOf}
+use Rattle.overlap.specs.Subcurve.{wholeOf, lowHalf, highHalf}
+use Rattle.overlap.specs.Thrown.{isThrown, isWholeThrown}
+use Rattle.leaf.specs.declared.leaf.Leaf.{Leaf}
+use Rattle.leaf.specs.declared.leaf.Leaf.the-variants.{Passes, Fails, NoFrame}
+use Rattle.leaf.specs.Leaf.{leafOf}
+use Rattle.leaf.specs.Record.{flipsOf, recordOf}
 use Rattle.intersect.specs.declared.Intersection.{Intersection}
 use Rattle.intersect.specs.declared.Intersection.the-variants.{Hit, Miss, Refused}
-use Rattle.segment.specs.declared.frame.Context.{Context}
-use Rattle.segment.specs.declared.frame.Framed.{Framed}
-use Rattle.segment.specs.declared.frame.Framed.the-variants as framed
-use Rattle.segment.specs.declared.halves.Segment.{Segment}
-use Rattle.segment.specs.declared.leaf.Leaf.{Leaf}
-use Rattle.segment.specs.declared.leaf.Leaf.the-variants.{Passes, Fails, NoFrame}
-use Rattle.segment.specs.Depth.{depthOf}
-use Rattle.segment.specs.Frame.{framedCurve}
-use Rattle.segment.specs.Leaf.{leafOf, recordOf}
-use Rattle.segment.specs.Halves.{lowHalf, highHalf, isThrown, isWholeThrown}
 
 -- ---- a leaf
 
@@ -44,80 +46,77 @@ stops (Passes at f) = eq (at .t) 0f
 stops Fails = false
 stops (NoFrame k t) = true
 
--- what it replies with n segments counted: its record, or why there is none
-abbrev pub replyOf : Context → ℕ → Leaf → Intersection
-replyOf c n (Passes at f) = Hit (recordOf c at f) n
-replyOf c n Fails = Miss n
-replyOf c n (NoFrame k t) = Refused k
+-- ---- the subcurves, cut d times
 
--- ---- the segments, cut d times
+-- the subcurve j of level k
+unfoldable pub subcurveAt : Subcurve → ℕ → ℕ → Subcurve
+subcurveAt = node lowHalf highHalf
 
--- the segment j of level k
-unfoldable pub segmentAt : Segment → ℕ → ℕ → Segment
-segmentAt = piece lowHalf highHalf
+module _ (c : Curve) (v : View) where
+  abbrev pub thrown : Subcurve → Bool
+  thrown = isThrown c (v .zmax)
 
-module _ (c : Context) (s : Segment) where
-  abbrev pub thrown : Segment → Bool
-  thrown = isThrown (c .curve) (c .zmax)
+  module _ (s : Subcurve) where
+    abbrev pub wholeOpen : Bool
+    wholeOpen = not (isWholeThrown c (v .zmax) s)
 
-  abbrev pub wholeOpen : Bool
-  wholeOpen = not (isWholeThrown (c .curve) (c .zmax) s)
+    -- whether the subcurve j of level k is open: neither it nor any that holds it, the whole included, is thrown out
+    unfoldable pub openAt : ℕ → ℕ → Bool
+    openAt = isOpen lowHalf highHalf thrown wholeOpen s
 
-  -- whether the segment j of level k is open: neither it nor any that holds it, the whole included, is thrown out
-  unfoldable pub openAt : ℕ → ℕ → Bool
-  openAt = isOpen lowHalf highHalf thrown wholeOpen s
+    module _ (d : ℕ) where
+      -- the answer of the leaf i
+      unfoldable pub leafAt : ℕ → Leaf
+      leafAt i = leafOf c v (subcurveAt s d i)
 
-  module _ (d : ℕ) where
-    -- the answer of the leaf i
-    unfoldable pub leafAt : ℕ → Leaf
-    leafAt i = leafOf c (segmentAt s d i)
+      -- the first open leaf that passes with no frame or with distance equal to 0
+      unfoldable pub stopOf : Option ℕ
+      stopOf = firstOpen lowHalf highHalf thrown (λ p. stops (leafOf c v p)) wholeOpen s d
 
-    -- the first open leaf that passes with no frame or with distance equal to 0
-    unfoldable pub stopOf : Option ℕ
-    stopOf = firstOpen lowHalf highHalf thrown (λ p. stops (leafOf c p)) wholeOpen s d
+      -- the last open leaf that passes
+      unfoldable pub lastOf : Option ℕ
+      lastOf = lastOpen lowHalf highHalf thrown (λ p. passes (leafOf c v p)) wholeOpen s d
 
-    -- the last open leaf that passes
-    unfoldable pub lastOf : Option ℕ
-    lastOf = lastOpen lowHalf highHalf thrown (λ p. passes (leafOf c p)) wholeOpen s d
+      -- how many subcurves of all levels are open and start no later than the stop
+      unfoldable pub countOf : ℕ
+      countOf = openUpTo lowHalf highHalf thrown wholeOpen s d stopOf
 
-    -- how many segments of all levels are open and start no later than the stop
-    unfoldable pub countOf : ℕ
-    countOf = openUpTo lowHalf highHalf thrown wholeOpen s d stopOf
+-- ---- the reply
 
-    -- The stop decides, and where there is none the last open leaf that passes. Where there is none of either it is a miss.
-    unfoldable pub repliedAt : Intersection
-    repliedAt = atOr (λ i. replyOf c countOf (leafAt i)) (Miss countOf) (orElse stopOf lastOf)
+-- the ray in the object's frame, and whether normals turn
+module _ (c : Curve) (ray : Ray) (flip : Bool) where
+  -- what a leaf replies with n subcurves counted: its record, or why there is none
+  abbrev pub replyOf : ℕ → Leaf → Intersection
+  replyOf n (Passes at f) = Hit (recordOf c ray flip at f) n
+  replyOf n Fails = Miss n
+  replyOf n (NoFrame k t) = Refused k
+
+  -- The stop decides, and where there is none the last open leaf that passes. Where there is none of either it is a miss.
+  unfoldable pub repliedAt : View → Subcurve → ℕ → Intersection
+  repliedAt v s d = atOr (λ i. replyOf (countOf c v s d) (leafAt c v s d i)) (Miss (countOf c v s d)) (orElse (stopOf c v s d) (lastOf c v s d))
+
+  unfoldable pub intersectWhole : View → Subcurve → Intersection
+  intersectWhole v s = repliedAt v s (depthOf c (s .cp))
 
 -- ---- the call
 
-unfoldable pub intersectSegment : Context → Segment → Intersection
-intersectSegment c s = repliedAt c s (depthOf (c .curve) (s .cp))
-
-unfoldable pub intersectFramed : Framed → Intersection
-intersectFramed (framed.Curve c s) = intersectSegment c s
-intersectFramed framed.ZeroWeight = Refused 12
-intersectFramed framed.ZeroLength = Refused 13
-
--- an origin, a direction and a time that are finite and within ±1,048,576, and a t_max that is not below 0: what passes refusal 11
-unfoldable pub rayWithin : Ray → Bool
-rayWithin r =
-    within (r .o .x) largest && within (r .o .y) largest && within (r .o .z) largest && within (r .d .x) largest && within (r .d .y) largest && within (r .d .z) largest
-    && within (r .time) largest
-    && le 0f (r .«t_max»)
+unfoldable pub intersectFramed : Curve → Bool → Framed → Intersection
+intersectFramed c flip (framed.Curve ray v cp) = intersectWhole c ray flip v (wholeOf c cp)
+intersectFramed c flip framed.ZeroWeight = Refused 12
+intersectFramed c flip framed.ZeroLength = Refused 13
 
 -- 10, 11
 unfoldable pub rayRefusals : Matrix4x4 → Matrix4x4 → Ray → Table
 rayRefusals o2w w2o r = (not (matrixWithin o2w && matrixWithin w2o), 10) ∷ (not (rayWithin r), 11) ∷ []
+
+-- of a curve within the limits
+unfoldable pub intersectWithin : Curve → Matrix4x4 → Matrix4x4 → Bool → Ray → Intersection
+intersectWithin c o2w w2o reverse r = told Refused (firstOf (rayRefusals o2w w2o r)) (intersectFramed c (flipsOf reverse o2w) (framedCurve c w2o r))
 
 -- 9, 10, 11
 unfoldable pub intersectRefusals : List Float → Matrix4x4 → Matrix4x4 → Ray → Table
 intersectRefusals l o2w w2o r = (not (isCurve l), 9) ∷ rayRefusals o2w w2o r
 
 unfoldable pub intersectOf : List Float → Matrix4x4 → Matrix4x4 → Bool → Ray → Intersection
-intersectOf l o2w w2o reverse r = told Refused (firstOf (intersectRefusals l o2w w2o r)) (intersectFramed (framedCurve (curveFrom l) o2w w2o reverse r))
-
--- ---- for functions inside
-
--- of a curve within the limits
-unfoldable pub intersectWithin : Curve → Matrix4x4 → Matrix4x4 → Bool → Ray → Intersection
-intersectWithin c o2w w2o reverse r = told Refused (firstOf (rayRefusals o2w w2o r)) (intersectFramed (framedCurve c o2w w2o reverse r))
+intersectOf l o2w w2o reverse r =
+    told Refused (firstOf (intersectRefusals l o2w w2o r)) (intersectFramed (curveFrom l) (flipsOf reverse o2w) (framedCurve (curveFrom l) w2o r))

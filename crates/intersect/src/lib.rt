@@ -1,35 +1,38 @@
 // The ray and the flat curve: `intersect` of Curve in src/shapes/curve.rs of pbrt-rust, by its names
 // and in its order of operations. Refusals are numbers, and nothing is asked of a caller.
 ghost use mathlib.Core.Path.{_≡_};
+ghost use Prim.Native.Nat.{_≤_};
+ghost use lib.ListN.{length};
+ghost use Rattle.curve.specs.Layout.{floats, curveFrom};
 ghost use Rattle.intersect.specs.Walk.{reached, finished};
-ghost use Rattle.limits.specs.Within.{rayWithin};
-ghost use Rattle.intersect.specs.Intersect.{intersectSegment, intersectFramed, intersectWithin, intersectOf};
+ghost use Rattle.intersect.specs.Intersect.{intersectWhole, intersectFramed, intersectWithin, intersectOf};
 
 mod walk;
 
-use curve::Curve;
-use curve::Reading;
-use curve::read;
+use curve::is_curve;
+use frame::Framed;
+use frame::View;
+use frame::frame_curve;
+use frame::view_floats;
 use geometry::Ray;
+pub use interaction::SurfaceInteraction;
+use leaf::FOUND;
+use leaf::crossing_in;
+use leaf::flips;
+use leaf::frame_in;
+use leaf::record_at;
 use limits::is_matrix_within;
-use limits::is_within;
+use limits::is_ray_within;
 use matrix::Matrix4x4;
-use segment::Context;
-use segment::FOUND;
-use segment::Framed;
-use segment::Segment;
-pub use segment::SurfaceInteraction;
-use segment::context_floats;
-use segment::crossing_in;
-use segment::frame_curve;
-use segment::frame_in;
-use segment::is_whole_thrown;
-use segment::max_depth;
-use segment::record_at;
+use overlap::Subcurve;
+use overlap::half_width;
+use overlap::is_whole_thrown;
+use overlap::max_depth;
+use overlap::whole;
 use walk::Walked;
 use walk::recursive_intersect;
 
-// A hit with its record, or a miss, each with the number of segments looked at; or a refusal by its
+// A hit with its record, or a miss, each with the number of subcurves looked at; or a refusal by its
 // number.
 pub enum Intersection {
     Hit(SurfaceInteraction, u32),
@@ -37,27 +40,21 @@ pub enum Intersection {
     Refused(u8),
 }
 
-// Whether a ray passes refusal 11.
-fn is_ray_within(r: Ray) -> bool
-    ensures { λ b. ⌜ b ≡ rayWithin r ⌝ }
-{
-    is_within(r.o.x, 1048576.0)
-        & is_within(r.o.y, 1048576.0)
-        & is_within(r.o.z, 1048576.0)
-        & is_within(r.d.x, 1048576.0)
-        & is_within(r.d.y, 1048576.0)
-        & is_within(r.d.z, 1048576.0)
-        & is_within(r.time, 1048576.0)
-        & (0.0 <= r.t_max)
-}
-
-// The reply at the end of a walk that looked at n segments.
-fn finish(c: Context, found: &[f32; FOUND], n: u32, w: Walked) -> Intersection
-    ensures { λ r. ⌜ r ≡ finished c (reached w (now (found .entry)) n) ⌝ }
+// The reply at the end of a walk that looked at n subcurves. Here and below the curve is one that passed refusal 9.
+fn finish(
+    curve: &[f32],
+    ray: Ray,
+    flip: bool,
+    found: &[f32; FOUND],
+    n: u32,
+    w: Walked,
+) -> Intersection
+    requires { ⌜ floats ≤ length (now curve) ⌝ }
+    ensures { λ r. ⌜ r ≡ finished (curveFrom (now (curve .entry))) ray flip (reached w (now (found .entry)) n) ⌝ }
 {
     match w {
         Walked::Hit => {
-            let record = record_at(c, crossing_in(found), frame_in(found));
+            let record = record_at(curve, ray, flip, crossing_in(found), frame_in(found));
             Intersection::Hit(record, n)
         }
         Walked::Miss => Intersection::Miss(n),
@@ -65,57 +62,56 @@ fn finish(c: Context, found: &[f32; FOUND], n: u32, w: Walked) -> Intersection
     }
 }
 
-fn intersect_segment(c: Context, s: Segment) -> Intersection
-    ensures { λ r. ⌜ r ≡ intersectSegment c s ⌝ }
+fn intersect_whole(curve: &[f32], ray: Ray, flip: bool, v: View, s: Subcurve) -> Intersection
+    requires { ⌜ floats ≤ length (now curve) ⌝ }
+    ensures { λ r. ⌜ r ≡ intersectWhole (curveFrom (now (curve .entry))) ray flip v s ⌝ }
 {
-    if is_whole_thrown(c.curve, c.zmax, s) {
+    let w = half_width(curve, s.u0, s.u1);
+    if is_whole_thrown(w, v.zmax, s) {
         Intersection::Miss(0)
     } else {
-        let cuts = max_depth(c.curve, s.cp);
-        let fixed = context_floats(c);
+        let cuts = max_depth(curve, s.cp);
+        let fixed = view_floats(v);
         let mut found = [0.0f32; FOUND];
         let mut looked = 0u32;
         let walked = recursive_intersect(
+            curve,
             &fixed,
-            c.flip,
             s,
             cuts,
             &mut found,
             &mut looked,
             Walked::Miss,
         );
-        finish(c, &found, looked, walked)
+        finish(curve, ray, flip, &found, looked, walked)
     }
 }
 
-fn intersect_framed(f: Framed) -> Intersection
-    ensures { λ r. ⌜ r ≡ intersectFramed f ⌝ }
+fn intersect_framed(curve: &[f32], flip: bool, f: Framed) -> Intersection
+    requires { ⌜ floats ≤ length (now curve) ⌝ }
+    ensures { λ r. ⌜ r ≡ intersectFramed (curveFrom (now (curve .entry))) flip f ⌝ }
 {
     match f {
-        Framed::Curve(c, s) => intersect_segment(c, s),
+        Framed::Curve(ray, v, cp) => intersect_whole(curve, ray, flip, v, whole(curve, cp)),
         Framed::ZeroWeight => Intersection::Refused(12),
         Framed::ZeroLength => Intersection::Refused(13),
     }
 }
 
 fn intersect_within(
-    c: Curve,
+    curve: &[f32],
     object_to_world: Matrix4x4,
     world_to_object: Matrix4x4,
     reverse_orientation: bool,
     ray: Ray,
 ) -> Intersection
-    ensures { λ r. ⌜ r ≡ intersectWithin c «object_to_world» «world_to_object» «reverse_orientation» ray ⌝ }
+    requires { ⌜ floats ≤ length (now curve) ⌝ }
+    ensures { λ r. ⌜ r ≡ intersectWithin (curveFrom (now (curve .entry))) «object_to_world» «world_to_object» «reverse_orientation» ray ⌝ }
 {
     if is_matrix_within(object_to_world) & is_matrix_within(world_to_object) {
         if is_ray_within(ray) {
-            intersect_framed(frame_curve(
-                c,
-                object_to_world,
-                world_to_object,
-                reverse_orientation,
-                ray,
-            ))
+            let flip = flips(reverse_orientation, object_to_world);
+            intersect_framed(curve, flip, frame_curve(curve, world_to_object, ray))
         } else {
             Intersection::Refused(11)
         }
@@ -134,14 +130,15 @@ pub fn intersect(
 ) -> Intersection
     ensures { λ r. ⌜ r ≡ intersectOf (now (curve .entry)) «object_to_world» «world_to_object» «reverse_orientation» ray ⌝ }
 {
-    match read(curve) {
-        Reading::Curve(c) => intersect_within(
-            c,
+    if is_curve(curve) {
+        intersect_within(
+            curve,
             object_to_world,
             world_to_object,
             reverse_orientation,
             ray,
-        ),
-        Reading::OffLimits => Intersection::Refused(9),
+        )
+    } else {
+        Intersection::Refused(9)
     }
 }

@@ -1,21 +1,23 @@
-// The walk through a curve's segments, cut in two again and again.
+// The walk through a curve's subcurves, cut in two again and again.
 ghost use mathlib.Core.Path.{_≡_};
 ghost use Prim.Native.Nat.{suc, _+_, _≤_, _^_};
-ghost use Rattle.segment.specs.Fixed.{contextFrom};
+ghost use lib.ListN.{length};
+ghost use Rattle.curve.specs.Layout.{floats, curveFrom};
+ghost use Rattle.frame.specs.Fixed.{viewFrom};
 ghost use Rattle.intersect.specs.Intersect.{stops};
 ghost use Rattle.intersect.specs.Walk.{later, lastIn, reached, walkIn, halfIn};
-use segment::FIXED;
-use segment::FOUND;
-use segment::Leaf;
-use segment::Segment;
-use segment::context_from;
-use segment::curve_in;
-use segment::found_floats;
-use segment::half_width;
-use segment::halve;
-use segment::is_thrown;
-use segment::run_leaf;
-use segment::zmax_in;
+use frame::FIXED;
+use frame::zmax_in;
+use leaf::FOUND;
+use leaf::Leaf;
+use leaf::distance_in;
+use leaf::found_floats;
+use leaf::put_distance;
+use leaf::run_leaf;
+use overlap::Subcurve;
+use overlap::half_width;
+use overlap::halve;
+use overlap::is_thrown;
 
 // What a walk has come to. The crossing of a hit with its frame, or the distance where there is none, is among the
 // floats that it fills, so that what every step hands on is small.
@@ -36,7 +38,7 @@ fn settle(l: Leaf, found: &mut [f32; FOUND], so_far: Walked) -> Walked
         }
         Leaf::Fails => so_far,
         Leaf::NoFrame(number, t) => {
-            *found = [t; FOUND];
+            put_distance(found, t);
             Walked::Refused(number)
         }
     }
@@ -47,56 +49,56 @@ fn is_over(w: Walked, found: &[f32; FOUND]) -> bool
     ensures { λ b. ⌜ b ≡ stops (lastIn w (now (found .entry))) ⌝ }
 {
     match w {
-        Walked::Hit => found[0] == 0.0,
+        Walked::Hit => distance_in(found) == 0.0,
         Walked::Miss => false,
         Walked::Refused(_) => true,
     }
 }
 
-// The walk calls the half step, which calls the walk; depth falls. `fixed` and `flip` are what the call holds fixed,
-// `looked` counts the segments that are entered.
+// The walk calls the half step, which calls the walk; depth falls. The curve is the caller's slice, which passed refusal 9,
+// `fixed` is what else the walk holds fixed, and `looked` counts the subcurves that are entered.
 pub fn recursive_intersect(
+    curve: &[f32],
     fixed: &[f32; FIXED],
-    flip: bool,
-    s: Segment,
+    s: Subcurve,
     depth: u32,
     found: &mut [f32; FOUND],
     looked: &mut u32,
     so_far: Walked,
 ) -> Walked
-    requires { ⌜ now looked + 2 ^ suc depth ≤ 2 ^ 32 ⌝ }
-    ensures { λ r. ⌜ reached r (now (found .exit)) (now (looked .exit)) ≡ walkIn (contextFrom (now (fixed .entry)) flip) depth s (reached «so_far» (now (found .entry)) (now (looked .entry))) ⌝ }
+    requires { ⌜ (floats ≤ length (now curve)) × (now looked + 2 ^ suc depth ≤ 2 ^ 32) ⌝ }
+    ensures { λ r. ⌜ reached r (now (found .exit)) (now (looked .exit)) ≡ walkIn (curveFrom (now (curve .entry))) (viewFrom (now (fixed .entry))) depth s (reached «so_far» (now (found .entry)) (now (looked .entry))) ⌝ }
 {
     *looked = *looked + 1;
     if depth == 0 {
-        settle(run_leaf(context_from(fixed, flip), s), found, so_far)
+        settle(run_leaf(curve, fixed, s), found, so_far)
     } else {
         let halves = halve(s);
-        let first = half_step(fixed, flip, halves.low, depth - 1, found, looked, so_far);
+        let first = half_step(curve, fixed, halves.low, depth - 1, found, looked, so_far);
         if is_over(first, found) {
             first
         } else {
-            half_step(fixed, flip, halves.high, depth - 1, found, looked, first)
+            half_step(curve, fixed, halves.high, depth - 1, found, looked, first)
         }
     }
 }
 
 fn half_step(
+    curve: &[f32],
     fixed: &[f32; FIXED],
-    flip: bool,
-    s: Segment,
+    s: Subcurve,
     depth: u32,
     found: &mut [f32; FOUND],
     looked: &mut u32,
     so_far: Walked,
 ) -> Walked
-    requires { ⌜ now looked + 2 ^ suc depth ≤ 2 ^ 32 ⌝ }
-    ensures { λ r. ⌜ reached r (now (found .exit)) (now (looked .exit)) ≡ halfIn (contextFrom (now (fixed .entry)) flip) depth s (reached «so_far» (now (found .entry)) (now (looked .entry))) ⌝ }
+    requires { ⌜ (floats ≤ length (now curve)) × (now looked + 2 ^ suc depth ≤ 2 ^ 32) ⌝ }
+    ensures { λ r. ⌜ reached r (now (found .exit)) (now (looked .exit)) ≡ halfIn (curveFrom (now (curve .entry))) (viewFrom (now (fixed .entry))) depth s (reached «so_far» (now (found .entry)) (now (looked .entry))) ⌝ }
 {
-    let w = half_width(curve_in(fixed), s.u0, s.u1);
+    let w = half_width(curve, s.u0, s.u1);
     if is_thrown(w, zmax_in(fixed), s) {
         so_far
     } else {
-        recursive_intersect(fixed, flip, s, depth, found, looked, so_far)
+        recursive_intersect(curve, fixed, s, depth, found, looked, so_far)
     }
 }

@@ -1,6 +1,6 @@
 -- `intersect::finish` meets its contract: each return rewrites by the facts on its way. Assumes nothing.
 use borrow.Author.Needs.{needs}
-use Rattle.intersect.specs.Walk.{reached, finished}
+use Rattle.intersect.specs.Walk.{finished, reached}
 use Rattle.intersect.proofs.finish.Statement.{statement}
 use Rattle.intersect.proofs.finish.Tie as tie
 
@@ -17,4 +17,4 @@ unfolding finished reached
 returns-3 c = rw (c .before .w .given .1)
 
 pub finish-spec : {M : Type 1} → statement M
-finish-spec = tie.close (tie.spec (λ c. search needs) (λ c κs. tt) (λ c κs. tt) (λ c κs. tt) (λ c. search needs) (λ c. search needs) returns returns-2 returns-3)
+finish-spec = tie.close (tie.spec (λ c. search needs) (λ c κs. search needs) (λ c κs. search needs) (λ c κs. search needs) (λ c. search needs) (λ c. search needs) returns returns-2 returns-3)

@@ -10,45 +10,41 @@ use Rattle.intersect.proofs.walk.+half_step+recursive_intersect.Lts-hal
 use Rattle.intersect.proofs.walk.recursive_intersect.Reads as walk
 use Rattle.intersect.proofs.walk.recursive_intersect.Kinds as walk-kinds
 use Rattle.intersect.proofs.walk.+half_step+recursive_intersect.Lts-recursive_intersect as walk-lts
-use Rattle.segment.proofs.context_from.Reads as context-from-reads
-use Rattle.segment.proofs.curve_in.Reads as curve-in-reads
-use Rattle.segment.proofs.half_width.Reads as half-width-reads
-use Rattle.segment.proofs.zmax_in.Reads as zmax-in-reads
-use Rattle.segment.proofs.run_leaf.Reads as run-leaf-reads
-use Rattle.segment.proofs.halve.Reads as halve-reads
-use Rattle.segment.proofs.is_thrown.Reads as is-thrown-reads
+use Rattle.frame.proofs.zmax_in.Reads as zmax-in-reads
+use Rattle.overlap.proofs.half_width.Reads as half-width-reads
+use Rattle.overlap.proofs.halve.Reads as halve-reads
+use Rattle.overlap.proofs.is_thrown.Reads as is-thrown-reads
+use Rattle.leaf.proofs.run_leaf.Reads as run-leaf-reads
 use Rattle.intersect.proofs.walk.is_over.Reads as is-over-reads
 use Rattle.intersect.proofs.walk.settle.Reads as settle-reads
 use Rattle.intersect.proofs.Steps.{room-enter, room-low, room-high, half-out, half-in, walk-ends, one-more, over-is, walk-stops, walk-goes}
 use Rattle.intersect.proofs.walk.+half_step+recursive_intersect.{statement}
 use Rattle.intersect.proofs.walk.+half_step+recursive_intersect.Tie.{close}
 
-abbrev μ-half-step : Measures 3 half-step-kinds.ps ℕ
+abbrev μ-half-step : Measures 4 half-step-kinds.ps ℕ
 μ-half-step κs a = 2 * a .1 .1 .1 .0 + 1
 
-abbrev μ-walk : Measures 3 walk-kinds.ps ℕ
+abbrev μ-walk : Measures 4 walk-kinds.ps ℕ
 μ-walk κs a = 2 * a .1 .1 .1 .0
 
-abbrev half-step-at : ℕ → In 3 half-step-kinds.ps
-half-step-at t = and 3 half-step-kinds.ps (is 3 half-step-kinds.ps μ-half-step t) half-step.Pre
+abbrev half-step-at : ℕ → In 4 half-step-kinds.ps
+half-step-at t = and 4 half-step-kinds.ps (is 4 half-step-kinds.ps μ-half-step t) half-step.Pre
 
-abbrev half-step-below : ℕ → In 3 half-step-kinds.ps
-half-step-below t = and 3 half-step-kinds.ps (falls 3 half-step-kinds.ps _<_ μ-half-step t) half-step.Pre
+abbrev half-step-below : ℕ → In 4 half-step-kinds.ps
+half-step-below t = and 4 half-step-kinds.ps (falls 4 half-step-kinds.ps _<_ μ-half-step t) half-step.Pre
 
-abbrev walk-at : ℕ → In 3 walk-kinds.ps
-walk-at t = and 3 walk-kinds.ps (is 3 walk-kinds.ps μ-walk t) walk.Pre
+abbrev walk-at : ℕ → In 4 walk-kinds.ps
+walk-at t = and 4 walk-kinds.ps (is 4 walk-kinds.ps μ-walk t) walk.Pre
 
-abbrev walk-below : ℕ → In 3 walk-kinds.ps
-walk-below t = and 3 walk-kinds.ps (falls 3 walk-kinds.ps _<_ μ-walk t) walk.Pre
+abbrev walk-below : ℕ → In 4 walk-kinds.ps
+walk-below t = and 4 walk-kinds.ps (falls 4 walk-kinds.ps _<_ μ-walk t) walk.Pre
 
 -- what each is told of the functions that it calls
 abbrev half-step-calls : ℕ → half-step-lts.Claims
-half-step-calls t = (curve-in-reads.Asked, curve-in-reads.Learnt, half-width-reads.Asked, half-width-reads.Learnt, zmax-in-reads.Asked, zmax-in-reads.Learnt, is-thrown-reads.Asked, is-thrown-reads.Learnt, walk-below t, walk.Post)
+half-step-calls t = (half-width-reads.Asked, half-width-reads.Learnt, zmax-in-reads.Asked, zmax-in-reads.Learnt, is-thrown-reads.Asked, is-thrown-reads.Learnt, walk-below t, walk.Post)
 
 abbrev walk-calls : ℕ → walk-lts.Claims
 walk-calls t = (
-  context-from-reads.Asked,
-  context-from-reads.Learnt,
   run-leaf-reads.Asked,
   run-leaf-reads.Learnt,
   settle-reads.Asked,
@@ -67,48 +63,48 @@ half-step-walk-requires t c κs = (omega arith, c .before .before .before .befor
 half-step-returns : (t : ℕ) → half-step-lts.Need-returns (half-step-calls t) (half-step-at t) half-step.Post
 half-step-returns t c =
     let tested = c .before in
-    half-out _ _ _ _ _ _ _ _ (tested .before .before .before .curve-in .ensures) (tested .before .before .half-width .ensures) (tested .before .zmax-in .ensures) (tested .is-thrown .ensures) (c .if1 .taken) _
+    half-out _ _ _ _ _ _ _ (tested .before .before .half-width .ensures) (tested .before .zmax-in .ensures) (tested .is-thrown .ensures) (c .if1 .taken) _
 
 half-step-returns-2 : (t : ℕ) → half-step-lts.Need-returns-2 (half-step-calls t) (half-step-at t) half-step.Post
 half-step-returns-2 t c =
     let left = c .before .before .before in
     let tested = left .before in
-    half-in _ _ _ _ _ _ _ _ (tested .before .before .before .curve-in .ensures) (tested .before .before .half-width .ensures) (tested .before .zmax-in .ensures) (tested .is-thrown .ensures) (left .if1 .left) _ _ (c .recursive-intersect .ensures)
+    half-in _ _ _ _ _ _ _ (tested .before .before .half-width .ensures) (tested .before .zmax-in .ensures) (tested .is-thrown .ensures) (left .if1 .left) _ _ (c .recursive-intersect .ensures)
 
 walk-add-looked : (t : ℕ) → walk-lts.Need-add-looked (walk-calls t) (walk-at t) walk.Post
-walk-add-looked t c = record { fits = omega (arith, room-enter _ _ (c .before .pre .1)) }
+walk-add-looked t c = record { fits = omega (arith, room-enter _ _ (c .before .before .pre .1 .1)) }
 
 walk-half-step-requires : (t : ℕ) → walk-lts.Need-half-step-requires (walk-calls t) (walk-at t) walk.Post
 walk-half-step-requires t c κs =
     let cut = c .before .before .before in
-    (omega arith, room-low _ _ (cut .if1 .left) (cut .before .before .pre .1))
+    (omega arith, (cut .before .before .before .pre .1 .0, room-low _ _ (cut .if1 .left) (cut .before .before .before .pre .1 .1)))
 
 walk-half-step-requires-2 : (t : ℕ) → walk-lts.Need-half-step-requires-2 (walk-calls t) (walk-at t) walk.Post
 walk-half-step-requires-2 t c κs =
     let first = c .before .before .before .before .before in
     let cut = first .before .before .before .before in
-    (omega arith, room-high _ _ _ _ _ _ _ _ _ (cut .if1 .left) (cut .before .before .pre .1) (first .half-step .ensures))
+    (omega arith, (cut .before .before .before .pre .1 .0, room-high _ _ _ _ _ _ _ _ _ _ (cut .if1 .left) (cut .before .before .before .pre .1 .1) (first .half-step .ensures)))
 
 walk-returns : (t : ℕ) → walk-lts.Need-returns (walk-calls t) (walk-at t) walk.Post
 walk-returns t c =
     let run = c .before .before in
-    walk-ends _ _ _ _ _ _ _ _ _ _ _ (run .before .before .if1 .taken) (run .before .context-from .ensures) (run .run-leaf .ensures) (c .settle .ensures)
+    walk-ends _ _ _ _ _ _ _ _ _ _ (run .before .if1 .taken) (run .run-leaf .ensures) (c .settle .ensures)
 
 walk-returns-2 : (t : ℕ) → walk-lts.Need-returns-2 (walk-calls t) (walk-at t) walk.Post
 walk-returns-2 t c =
     let first = c .before .before .before in
     let halved = first .before .before .before in
-    walk-stops _ _ _ _ _ _ _ _ (halved .before .if1 .left) (one-more _ _ _) (halved .halve .ensures) (first .half-step .ensures) (over-is _ _ _ _ (c .before .is-over .ensures)) (c .if2 .taken)
+    walk-stops _ _ _ _ _ _ _ _ _ (halved .before .if1 .left) (one-more _ _ _) (halved .halve .ensures) (first .half-step .ensures) (over-is _ _ _ _ (c .before .is-over .ensures)) (c .if2 .taken)
 
 walk-returns-3 : (t : ℕ) → walk-lts.Need-returns-3 (walk-calls t) (walk-at t) walk.Post
 walk-returns-3 t c =
     let tested = c .before .before .before in
     let first = tested .before .before .before in
     let halved = first .before .before .before in
-    walk-goes _ _ _ _ _ _ _ _ (halved .before .if1 .left) (one-more _ _ _) (halved .halve .ensures) (first .half-step .ensures) (over-is _ _ _ _ (tested .before .is-over .ensures)) (tested .if2 .left) _ (c .half-step2 .ensures)
+    walk-goes _ _ _ _ _ _ _ _ _ (halved .before .if1 .left) (one-more _ _ _) (halved .halve .ensures) (first .half-step .ensures) (over-is _ _ _ _ (tested .before .is-over .ensures)) (tested .if2 .left) _ (c .half-step2 .ensures)
 
 pub +half-step+recursive-intersect-spec : {M : Type 1} → statement M
 +half-step+recursive-intersect-spec =
     close μ-half-step μ-walk
-    (λ t. half-step-lts.spec (half-step-calls t) (half-step-at t) half-step.Post (λ c κs. tt) (λ c κs. tt) (λ c κs. tt) (λ c κs. tt) (half-step-walk-requires t) (half-step-returns t) (half-step-returns-2 t))
-    (λ t. walk-lts.spec (walk-calls t) (walk-at t) walk.Post (walk-add-looked t) (λ c κs. tt) (λ c κs. tt) (λ c κs. tt) (λ c κs. tt) (λ c. omega arith) (walk-half-step-requires t) (λ c κs. tt) (λ c. omega arith) (walk-half-step-requires-2 t) (walk-returns t) (walk-returns-2 t) (walk-returns-3 t))
+    (λ t. half-step-lts.spec (half-step-calls t) (half-step-at t) half-step.Post (λ c κs. c .before .pre .1 .0) (λ c κs. tt) (λ c κs. tt) (half-step-walk-requires t) (half-step-returns t) (half-step-returns-2 t))
+    (λ t. walk-lts.spec (walk-calls t) (walk-at t) walk.Post (walk-add-looked t) (λ c κs. omega arith) (λ c κs. tt) (λ c κs. tt) (λ c. omega arith) (walk-half-step-requires t) (λ c κs. tt) (λ c. omega arith) (walk-half-step-requires-2 t) (walk-returns t) (walk-returns-2 t) (walk-returns-3 t))

@@ -1,0 +1,3 @@
+pub mod Depth
+pub mod Subcurve
+pub mod Thrown

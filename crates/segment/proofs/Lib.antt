@@ -1,2 +1,0 @@
-pub mod Law
-pub mod Marked
