@@ -1,6 +1,10 @@
 //! Times, or lets callgrind count, the library and the unchanged Rust on the same inputs. See `bench/run`.
 
 mod draw;
+// Some of its names are not needed here.
+#[allow(dead_code)]
+#[path = "../../bindings/rust/src/layout.rs"]
+mod layout;
 mod mix;
 mod ours;
 mod rows;

@@ -7,6 +7,8 @@ pub mod curve_inputs;
 pub mod flat;
 pub mod inputs;
 pub mod kinds;
+#[path = "../../bindings/rust/src/layout.rs"]
+pub mod layout;
 pub mod limits;
 pub mod panics;
 pub mod record;
