@@ -2,16 +2,12 @@
 //! turned and moved, and shared by all beams of a row, as a scene's curves share theirs. A beam is aimed at a
 //! point of the belt or beside it, and a row keeps the first beams that ours answers as the row wants it.
 
+use crate::cubic;
+use crate::layout::{UMAX, UMIN};
 use crate::ours::{self, Answer};
+use crate::piece::{self, Piece};
 use crate::vector::{cross, difference, length, normal, scaled, sum, Vector};
-use cubic::at;
 use std::sync::Arc;
-
-#[path = "../../oracle/src/cubic.rs"]
-mod cubic;
-
-/// Four points, two widths, umin, umax.
-pub type Piece = [f32; 16];
 
 /// By rows.
 pub type Matrix = [f32; 16];
@@ -243,14 +239,10 @@ fn long_and_thin(rng: &mut Rng) -> Piece {
 
 fn piece(rng: &mut Rng, points: [Vector; 4], width: f64, u: [f64; 2]) -> Piece {
     let other = width * rng.between(1.0, 1.25);
-    let numbers = points.as_flattened().iter().copied();
-    let numbers: Vec<f32> = numbers
-        .chain([width, other])
-        .chain(u)
-        .map(|x| x as f32)
-        .collect();
+    let points = points.map(|p| p.map(|x| x as f32));
+    let [widths, u] = [[width, other], u].map(|pair| pair.map(|x| x as f32));
 
-    numbers.try_into().expect("sixteen numbers")
+    piece::from_parts(&points, widths, u)
 }
 
 /// A turn and a move.
@@ -286,9 +278,9 @@ fn matrix(entry: impl Fn(usize, usize) -> f64) -> Matrix {
 
 /// At a point of the belt, so many halves of its width beside its middle, from anywhere but along the belt.
 fn aimed(rng: &mut Rng, piece: Piece, place: &Arc<Place>, beside: f64) -> Beam {
-    let u = rng.between(piece[14] as f64, piece[15] as f64);
-    let (point, tangent) = at(&piece, u);
-    let half = 0.5 * (piece[12] as f64 * (1.0 - u) + piece[13] as f64 * u);
+    let u = rng.between(piece[UMIN] as f64, piece[UMAX] as f64);
+    let (point, tangent) = cubic::at(&piece, u);
+    let half = cubic::half_width(&piece, u);
     let (direction, across) = loop {
         let direction = rng.direction();
         let across = cross(direction, normal(tangent));

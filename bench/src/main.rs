@@ -1,10 +1,6 @@
 //! Times, or lets callgrind count, the library and the unchanged Rust on the same inputs. See `bench/run`.
 
 mod draw;
-// Some of its names are not needed here.
-#[allow(dead_code)]
-#[path = "../../bindings/rust/src/layout.rs"]
-mod layout;
 mod mix;
 mod ours;
 mod rows;
@@ -13,6 +9,18 @@ mod sheet;
 mod table;
 mod time;
 mod vector;
+
+// What is shared with the wrapper and the oracle. Not all that the first names is needed here.
+#[allow(dead_code)]
+#[path = "../../bindings/rust/src/layout.rs"]
+mod layout;
+
+#[path = "../../oracle/src/cubic.rs"]
+mod cubic;
+#[path = "../../oracle/src/piece.rs"]
+mod piece;
+#[path = "../../oracle/src/record.rs"]
+mod record;
 
 use std::path::Path;
 use std::process::exit;

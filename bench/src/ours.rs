@@ -1,6 +1,7 @@
 //! The library's C functions, and how they are timed.
 
-use crate::draw::{Beam, Belt, Matrix, Piece};
+use crate::draw::{Beam, Belt, Matrix};
+use crate::piece::Piece;
 use declared::*;
 use std::hint::black_box;
 use std::time::{Duration, Instant};

@@ -1,6 +1,7 @@
 //! The rows of the table: inputs, both sides, and that both give the same.
 
-use crate::draw::{self, Beam, Belt, Piece, Place};
+use crate::draw::{self, Beam, Belt, Place};
+use crate::piece::Piece;
 use crate::time::Timed;
 use crate::{mix, ours, rust, sheet};
 use pbrt::core::shape::{Shape, Shapes};

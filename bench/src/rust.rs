@@ -2,7 +2,9 @@
 //! made beforehand, as a scene's are; a ray is made for each call, and so is the handle on the shape that
 //! `intersect` takes as `s`. The interaction that it fills is the caller's, and is made once.
 
-use crate::draw::{Beam, Belt, Matrix, Piece, Place};
+use crate::draw::{Beam, Belt, Matrix, Place};
+use crate::piece::{self, Piece, Transforms};
+use crate::record::record;
 use pbrt::core::geometry::bounds::Bounds3f;
 use pbrt::core::geometry::point::Point3f;
 use pbrt::core::geometry::ray::Ray;
@@ -11,23 +13,16 @@ use pbrt::core::interaction::SurfaceInteraction;
 use pbrt::core::paramset::ParamSet;
 use pbrt::core::shape::{Shape, Shapes};
 use pbrt::core::transform::{Matrix4x4, Transform};
-use pbrt::shapes::curve::{self, Curve, CurveCommon, CurveType};
-use record::record;
+use pbrt::shapes::curve;
 use std::hint::black_box;
 use std::sync::Arc;
 use std::time::{Duration, Instant};
-
-#[path = "../../oracle/src/record.rs"]
-mod record;
 
 /// A curve and a ray at it.
 pub struct Aimed {
     shape: Arc<Shapes>,
     ray: [f32; 8],
 }
-
-/// The transforms of a place: object_to_world and world_to_object.
-type Transforms = [Arc<Transform>; 2];
 
 pub fn aimed(beams: &[Beam]) -> Vec<Aimed> {
     let mut made: Option<(&Arc<Place>, Transforms)> = None;
@@ -71,19 +66,7 @@ fn transforms(place: &Place) -> Transforms {
 }
 
 fn shape(piece: &Piece, transforms: Transforms, reverse: bool) -> Arc<Shapes> {
-    let point = |i: usize| Point3f::new(piece[3 * i], piece[3 * i + 1], piece[3 * i + 2]);
-    let points = [point(0), point(1), point(2), point(3)];
-    let common = CurveCommon::new(points, piece[12], piece[13], CurveType::Flat, None);
-    let [object_to_world, world_to_object] = transforms;
-
-    Arc::new(Shapes::from(Curve::new(
-        object_to_world,
-        world_to_object,
-        reverse,
-        Arc::new(common),
-        piece[14],
-        piece[15],
-    )))
+    Arc::new(Shapes::from(piece::to_curve(piece, transforms, reverse)))
 }
 
 impl Aimed {
@@ -135,12 +118,10 @@ pub fn laid(params: &ParamSet, identity: &Arc<Transform>) -> Vec<Arc<Shapes>> {
 
 /// The pieces' floats, as ours has them.
 pub fn floats(shapes: &[Arc<Shapes>]) -> Vec<f32> {
-    let one = |shape: &Arc<Shapes>| {
-        let Shapes::Curve(curve) = shape.as_ref();
-        curve::record(curve)
-    };
-
-    shapes.iter().flat_map(one).collect()
+    shapes
+        .iter()
+        .flat_map(|shape| piece::from_shape(shape))
+        .collect()
 }
 
 pub fn time_beams(beams: &[Aimed], times: u32) -> Duration {

@@ -1,9 +1,9 @@
 //! The kind `intersect`: what the Rust answers to a beam, checked by the flat reading of 01.
 
 use crate::flat;
-use crate::kinds::curve_of;
 use crate::limits;
 use crate::panics::{self, Site};
+use crate::piece::{self, Piece};
 use crate::record::{record, Record};
 use crate::words::{put, text, Reader, Words};
 use pbrt::core::geometry::point::Point3f;
@@ -18,7 +18,7 @@ use std::panic::{catch_unwind, AssertUnwindSafe};
 use std::sync::Arc;
 
 pub struct Beam {
-    pub piece: [f32; 16],
+    pub piece: Piece,
     pub object_to_world: [f32; 16],
     pub world_to_object: [f32; 16],
     pub reverse: bool,
@@ -118,9 +118,8 @@ pub fn checked(line: &[u32]) -> (Reply, Option<flat::Reading>) {
 }
 
 fn intersect(beam: &Beam) -> Reply {
-    let mut curve = curve_of(&beam.piece, transform(&beam.object_to_world));
-    curve.world_to_object = Arc::new(transform(&beam.world_to_object));
-    curve.reverse_orientation = beam.reverse;
+    let transforms = [&beam.object_to_world, &beam.world_to_object].map(|m| Arc::new(transform(m)));
+    let curve = piece::to_curve(&beam.piece, transforms, beam.reverse);
     let shape = Arc::new(Shapes::from(curve));
     // The caller's old distance plays no part: of all distances zero might.
     let mut t_hit = 0.0;

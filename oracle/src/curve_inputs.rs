@@ -3,12 +3,11 @@
 use crate::inputs::{aimed, matrix, Triple};
 use crate::kinds::curve_of;
 use crate::limits::ShapeParams;
+use crate::piece::{self, Piece};
 use crate::rng::{neighbour, pow2, Rng};
 use crate::words::{put, Words};
 use pbrt::core::shape::Shape;
 use pbrt::core::transform::Transform;
-
-pub type Piece = [f32; 16];
 
 /// How far coordinates and widths go.
 pub struct Reach {
@@ -79,12 +78,10 @@ pub fn world_bound(rng: &mut Rng, words: &mut Words) {
 }
 
 pub fn valid_piece(rng: &mut Rng) -> Piece {
-    let mut piece = [0.0; 16];
-    piece[..12].copy_from_slice(&points(rng, 4, &PIECE));
-    piece[12..14].copy_from_slice(&widths(rng, &PIECE));
-    piece[14..].copy_from_slice(&parameters(rng));
+    let floats = points(rng, 4, &PIECE);
+    let (points, _) = floats.as_chunks();
 
-    piece
+    piece::from_parts(points, widths(rng, &PIECE), parameters(rng))
 }
 
 fn spoilt_piece(rng: &mut Rng) -> Piece {

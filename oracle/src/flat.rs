@@ -2,6 +2,7 @@
 //! pieces by level and number, and not as the Rust recurses. Only the frame's tools are the Rust's.
 
 use crate::beam::{transform, Beam, Reply};
+use crate::piece;
 use crate::record::Record;
 use pbrt::core::geometry::point::Point3f;
 use pbrt::core::geometry::ray::Ray;
@@ -140,7 +141,7 @@ fn not_zero(x: f32, refusal: u32) -> Result<(), u32> {
 }
 
 fn blossoms(beam: &Beam) -> [Point3f; 4] {
-    let points = control_points(beam);
+    let points = piece::points(&beam.piece);
     let [umin, umax] = [beam.piece[14], beam.piece[15]];
     let ends = [
         [umin, umin, umin],
@@ -161,10 +162,6 @@ fn halfway(points: &Points, u0: f32, u1: f32) -> [Triple; 2] {
     let [a, b, c] = [0, 1, 2].map(|i| mixed(u0, points[i], points[i + 1]));
 
     [mixed(u1, a, b), mixed(u1, b, c)]
-}
-
-fn control_points(beam: &Beam) -> Points {
-    std::array::from_fn(|i| std::array::from_fn(|k| beam.piece[3 * i + k]))
 }
 
 fn triple(p: Point3f) -> Triple {
@@ -301,7 +298,7 @@ fn leaf(beam: &Beam, framed: &Framed, sliver: &Open) -> Option<Passing> {
 
 /// The record, or 14, 15 or 16, tried in that order.
 fn record(beam: &Beam, framed: &Framed, t: f32, u: f32, v: f32, width: f32) -> Result<Record, u32> {
-    let (_, dpdu) = evaluated(&control_points(beam), u);
+    let (_, dpdu) = evaluated(&piece::points(&beam.piece), u);
     if dpdu == [0.0; 3] {
         return Err(14);
     }

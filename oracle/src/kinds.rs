@@ -1,6 +1,7 @@
 //! What can be asked: for each kind its layout, its inputs and the call of the supplied Rust.
 
 use crate::limits::{self, ShapeParams};
+use crate::piece::{self, Piece};
 use crate::rng::Rng;
 use crate::words::{put, put_bounds, put_matrix, put_point, put_vector, Reader, Words};
 use crate::{beam, beam_inputs, curve_inputs, inputs};
@@ -10,7 +11,7 @@ use pbrt::core::geometry::vector::{vec3_coordinate_system, Vector3f};
 use pbrt::core::paramset::ParamSet;
 use pbrt::core::shape::{Shape, Shapes};
 use pbrt::core::transform::{Matrix4x4, Transform};
-use pbrt::shapes::curve::{self, Curve, CurveCommon, CurveType};
+use pbrt::shapes::curve::{self, Curve};
 use std::panic::catch_unwind;
 use std::sync::Arc;
 
@@ -264,33 +265,22 @@ fn put_reply<T>(answer: &mut Words, reply: Result<T, u32>, put: impl Fn(&mut Wor
 }
 
 /// The curve that a piece stands for, world_to_object the identity.
-pub fn curve_of(piece: &[f32; 16], object_to_world: Transform) -> Curve {
-    let point = |i: usize| Point3f::new(piece[3 * i], piece[3 * i + 1], piece[3 * i + 2]);
-    let points = [point(0), point(1), point(2), point(3)];
-    let common = CurveCommon::new(points, piece[12], piece[13], CurveType::Flat, None);
-    let world_to_object = Arc::new(Transform::default());
+pub fn curve_of(piece: &Piece, object_to_world: Transform) -> Curve {
+    let transforms = [object_to_world, Transform::default()].map(Arc::new);
 
-    Curve::new(
-        Arc::new(object_to_world),
-        world_to_object,
-        false,
-        Arc::new(common),
-        piece[14],
-        piece[15],
-    )
+    piece::to_curve(piece, transforms, false)
 }
 
 /// The pieces that the Rust lays, where 01's limits let it.
-pub fn laid(params: &ShapeParams) -> Result<Vec<[f32; 16]>, u32> {
+pub fn laid(params: &ShapeParams) -> Result<Vec<Piece>, u32> {
     let pieces = limits::create_curve_shape(params)?;
     let curves = curves_of(params);
     assert_eq!(pieces, curves.len() as i64);
-    let record = |shape: &Arc<Shapes>| {
-        let Shapes::Curve(curve) = shape.as_ref();
-        curve::record(curve)
-    };
 
-    Ok(curves.iter().map(record).collect())
+    Ok(curves
+        .iter()
+        .map(|shape| piece::from_shape(shape))
+        .collect())
 }
 
 /// The Rust's call, given each parameter that it looks up for flat curves.

@@ -11,6 +11,7 @@ pub mod kinds;
 pub mod layout;
 pub mod limits;
 pub mod panics;
+pub mod piece;
 pub mod record;
 pub mod rng;
 pub mod shares;

@@ -5,6 +5,7 @@ use crate::beam::{self, Beam, Reply};
 use crate::inputs::identity;
 use crate::kinds;
 use crate::limits::ShapeParams;
+use crate::piece::Piece;
 use crate::words::{put, text, Words};
 
 pub struct Sheet {
@@ -48,14 +49,14 @@ fn answered(sheet: &[u8]) -> Result<String, Refused> {
 }
 
 /// The sheet, and the pieces that the Rust lays of it into a list of that length.
-pub fn laid(sheet: &[u8], list_len: u32) -> Result<(Sheet, Vec<[f32; 16]>), Refused> {
+pub fn laid(sheet: &[u8], list_len: u32) -> Result<(Sheet, Vec<Piece>), Refused> {
     let sheet = read(sheet, list_len)?;
     let pieces = kinds::laid(&sheet.belt).map_err(|number| Refused { number, line: 0 })?;
 
     Ok((sheet, pieces))
 }
 
-fn answer(piece: &[f32; 16], reverse: bool, ray: &[f32; 8]) -> String {
+fn answer(piece: &Piece, reverse: bool, ray: &[f32; 8]) -> String {
     let mut line = Words::new();
     let beam = Beam {
         piece: *piece,

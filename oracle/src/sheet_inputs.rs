@@ -3,10 +3,12 @@
 
 use crate::beam::Beam;
 use crate::beam_inputs::{end_at_hit, ray_at, shape, without_matrices};
-use crate::curve_inputs::{self, points_of, widths, Piece, ENTRY, LAID};
+use crate::curve_inputs::{self, points_of, widths, ENTRY, LAID};
 use crate::inputs::{identity, Triple};
 use crate::kinds;
+use crate::layout::{POINTS, WIDTH0, WIDTH1};
 use crate::limits::ShapeParams;
+use crate::piece::{self, Piece};
 use crate::rng::{neighbour, pow2, Rng};
 use crate::sheet::{Sheet, BASES, LIST_LEN, MOST_BEAMS, MOST_BYTES, TYPES};
 
@@ -142,8 +144,8 @@ fn valid(rng: &mut Rng, size: Size) -> Sheet {
 fn for_a_branch(rng: &mut Rng) -> Sheet {
     let beam = without_matrices(rng);
     let most = LAID.coordinate;
-    let points = beam.piece[..12].iter().map(|x| x.clamp(-most, most));
-    let widths = [beam.piece[12], beam.piece[13]];
+    let points = beam.piece[POINTS].iter().map(|x| x.clamp(-most, most));
+    let widths = [beam.piece[WIDTH0], beam.piece[WIDTH1]];
 
     Sheet {
         belt: ShapeParams {
@@ -258,8 +260,8 @@ fn ray(rng: &mut Rng, pieces: &[Piece], reverse: bool) -> [f32; 8] {
         6 => ray[3..6].copy_from_slice(&rng.zeros::<3>()),
         // It begins at an end of the belt.
         7 => {
-            let end = rng.pick(&[0, 9]);
-            ray[..3].copy_from_slice(&piece[end..end + 3]);
+            let [first, .., last] = piece::points(&piece);
+            ray[..3].copy_from_slice(&rng.pick(&[first, last]));
         }
         8 | 9 => {
             let mut beam = Beam {
@@ -280,12 +282,16 @@ fn ray(rng: &mut Rng, pieces: &[Piece], reverse: bool) -> [f32; 8] {
 
 /// Along z from below all pieces, through each deck above where it is aimed.
 fn upright(rng: &mut Rng, pieces: &[Piece], ray: &mut [f32; 8]) {
-    let z = |piece: &Piece| piece[2].min(piece[11]);
+    let z = |piece: &Piece| {
+        let [first, .., last] = piece::points(piece);
+        first[2].min(last[2])
+    };
     let lowest = pieces.iter().map(z).fold(f32::INFINITY, f32::min);
     let piece = rng.pick(pieces);
-    let aside = piece[12] * 0.5;
-    ray[0] = piece[0] + aside * rng.unit();
-    ray[1] = piece[1] + aside * rng.unit();
+    let [x, y, _] = piece::points(&piece)[0];
+    let aside = piece[WIDTH0] * 0.5;
+    ray[0] = x + aside * rng.unit();
+    ray[1] = y + aside * rng.unit();
     ray[2] = lowest - rng.pick(&[0.0, 1.0, 16.0]);
     ray[3..7].copy_from_slice(&[0.0, 0.0, rng.pick(&[1.0, 1.0, 0.5, 3.0]), f32::INFINITY]);
 }

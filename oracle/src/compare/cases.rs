@@ -7,6 +7,7 @@ use crate::calls;
 use crate::tally::Reply;
 use oracle::kinds::{self, Kind};
 use oracle::limits::ShapeParams;
+use oracle::piece::Piece;
 use oracle::rng::Rng;
 use oracle::sheet::{self, Refused, LIST_LEN};
 use oracle::sheet_inputs;
@@ -127,7 +128,7 @@ impl Create {
     }
 }
 
-fn write_pieces(list: &mut Output, pieces: &[[f32; 16]]) {
+fn write_pieces(list: &mut Output, pieces: &[Piece]) {
     let mut words = Words::new();
     put(&mut words, pieces.as_flattened());
     list.write(0, &words);
