@@ -1,6 +1,8 @@
 //! The kind `intersect`: what the Rust answers to a beam, checked by the flat reading of 01.
 
 use crate::flat;
+use crate::inputs::Matrix;
+use crate::layout::RAY_FLOATS;
 use crate::limits;
 use crate::panics::{self, Site};
 use crate::piece::{self, Piece};
@@ -19,11 +21,10 @@ use std::sync::Arc;
 
 pub struct Beam {
     pub piece: Piece,
-    pub object_to_world: [f32; 16],
-    pub world_to_object: [f32; 16],
+    pub object_to_world: Matrix,
+    pub world_to_object: Matrix,
     pub reverse: bool,
-    /// Origin, direction, t_max, time.
-    pub ray: [f32; 8],
+    pub ray: [f32; RAY_FLOATS],
 }
 
 /// 01's answer: with a hit and a miss goes the count.
@@ -85,7 +86,7 @@ impl Reply {
 }
 
 /// What is asked of it here does not read its inverse.
-pub fn transform(entries: &[f32; 16]) -> Transform {
+pub fn transform(entries: &Matrix) -> Transform {
     let m = Matrix4x4::from_row_slice(entries);
 
     Transform::from_matrices(&m, &Matrix4x4::default())

@@ -5,8 +5,10 @@ use crate::beam::{transform, Beam, Reply};
 use crate::cubic;
 use crate::curve_inputs::{parameters, spoil_piece, valid_piece, ENTRY, PIECE};
 use crate::flat;
-use crate::inputs::{identity, matrix, permutation, placement, Matrix, Triple};
-use crate::layout::{CURVE_FLOATS, POINTS, UMAX, UMIN, WIDTH0, WIDTH1};
+use crate::inputs::{identity, matrix, permutation, placement, Matrix, Triple, LAST_ROW};
+use crate::layout::{
+    CURVE_FLOATS, POINTS, RAY_D, RAY_FLOATS, RAY_O, RAY_T_MAX, RECORD_T, UMAX, UMIN, WIDTH0, WIDTH1,
+};
 use crate::piece::{self, Piece};
 use crate::rng::{neighbour, pow2, Rng};
 use crate::words::Words;
@@ -234,13 +236,13 @@ fn aimed(rng: &mut Rng) -> Beam {
     let piece = belt(rng);
     let aim = aim(rng, &piece);
     let mut beam = placed(rng, piece, aim.origin, aim.direction);
-    beam.ray[6] = t_max(rng, &aim);
+    beam.ray[RAY_T_MAX] = t_max(rng, &aim);
 
     beam
 }
 
 /// A ray at a piece, where both matrices are the identity.
-pub fn ray_at(rng: &mut Rng, piece: &Piece) -> [f32; 8] {
+pub fn ray_at(rng: &mut Rng, piece: &Piece) -> [f32; RAY_FLOATS] {
     let aim = aim(rng, piece);
     let [ox, oy, oz] = aim.origin.map(|x| x as f32);
     let [dx, dy, dz] = aim.direction.map(|x| x as f32);
@@ -330,7 +332,7 @@ fn direction(rng: &mut Rng, piece: &Piece, place: &Place) -> Triple64 {
 
 fn axis(rng: &mut Rng) -> Triple {
     let mut v = [0.0; 3];
-    v[rng.below(3) as usize] = rng.signed(1.0);
+    *rng.one_of(&mut v) = rng.signed(1.0);
 
     v
 }
@@ -389,11 +391,11 @@ fn world_to_object(rng: &mut Rng) -> Matrix {
         // Weights other than one: the same for all points, or not.
         19 => {
             m = placement(rng);
-            m[15] = rng.pick(&[0.5, 2.0, -1.0, 3.0, 0.1, 1.0e-6, 1.0e6]);
+            m[LAST_ROW + 3] = rng.pick(&[0.5, 2.0, -1.0, 3.0, 0.1, 1.0e-6, 1.0e6]);
         }
         20 => {
-            (0..3).for_each(|i| m[12 + i] = rng.unit() * pow2(-rng.between(0, 12)));
-            m[15] = rng.pick(&[1.0, 1.0, 2.0, -0.5]);
+            (0..3).for_each(|i| m[LAST_ROW + i] = rng.unit() * pow2(-rng.between(0, 12)));
+            m[LAST_ROW + 3] = rng.pick(&[1.0, 1.0, 2.0, -0.5]);
         }
         21 => {
             let (i, j) = (rng.below(3) as usize, rng.below(3) as usize);
@@ -531,7 +533,7 @@ fn at_origin(rng: &mut Rng) -> Beam {
     }
     beam.piece = held(piece);
     if rng.one_in(8) {
-        beam.ray[6] = rng.zero();
+        beam.ray[RAY_T_MAX] = rng.zero();
     }
 
     beam
@@ -654,11 +656,12 @@ fn no_direction(rng: &mut Rng) -> Beam {
             axis(rng).map(|x| x * pow2(-rng.between(70, 80)))
         }
         _ => {
-            (0..3).for_each(|k| beam.ray[k] = rng.signed(ENTRY) * rng.unit());
+            let origin = beam.ray[RAY_O].iter_mut();
+            origin.for_each(|x| *x = rng.signed(ENTRY) * rng.unit());
             unit(rng).map(|x| x * pow2(-rng.between(2, 20)))
         }
     };
-    beam.ray[3..6].copy_from_slice(&direction);
+    beam.ray[RAY_D].copy_from_slice(&direction);
 
     beam
 }
@@ -671,7 +674,8 @@ fn weightless(rng: &mut Rng) -> Beam {
         1 => axis(rng),
         _ => rng.integers(3),
     };
-    let sum = beam.ray[0] * row[0] + beam.ray[1] * row[1] + beam.ray[2] * row[2];
+    let o = &beam.ray[RAY_O];
+    let sum = o[0] * row[0] + o[1] * row[1] + o[2] * row[2];
     let last = match rng.below(6) {
         0 => neighbour(-sum, rng.between(-1, 1)),
         _ => -sum,
@@ -681,7 +685,7 @@ fn weightless(rng: &mut Rng) -> Beam {
     } else {
         rng.zeros()
     };
-    beam.world_to_object[12..].copy_from_slice(&row);
+    beam.world_to_object[LAST_ROW..].copy_from_slice(&row);
 
     beam
 }
@@ -694,10 +698,10 @@ fn far_origin(rng: &mut Rng) -> Beam {
         *x = rng.integer(4) * 0.25 * size;
     }
     let mut origin: Triple = rng.zeros();
-    origin[rng.below(3) as usize] = rng.signed(ENTRY) * rng.pick(&[1.0, 0.75, 0.5, 1.0e-3]);
+    *rng.one_of(&mut origin) = rng.signed(ENTRY) * rng.pick(&[1.0, 0.75, 0.5, 1.0e-3]);
     let direction = unit(rng);
     let mut beam = plain(rng, held(piece), origin, direction);
-    beam.world_to_object[15] = if rng.one_in(4) {
+    beam.world_to_object[LAST_ROW + 3] = if rng.one_in(4) {
         rng.subnormal()
     } else {
         pow2(-rng.between(100, 109)) * rng.signed(1.0)
@@ -717,7 +721,7 @@ fn no_frame(rng: &mut Rng) -> Beam {
         for i in 0..3 {
             let sign = rng.signed(1.0);
             (0..3).for_each(|k| beam.world_to_object[4 * i + k] = sign * signs[k] * ENTRY);
-            beam.ray[3 + i] = signs[i] * ENTRY;
+            beam.ray[RAY_D][i] = signs[i] * ENTRY;
         }
         let ahead = rng.pick(&[0.0, 1.0, 1000.0, PIECE.coordinate]);
         let bend = unit(rng).map(|x| x * pow2(rng.between(0, 18)));
@@ -730,9 +734,9 @@ fn no_frame(rng: &mut Rng) -> Beam {
         let (lost, kept) = rng.pick(&[(0, 1), (0, 2), (1, 2), (1, 0), (2, 0), (2, 1)]);
         let level = points[0][kept];
         points.iter_mut().for_each(|p| p[kept] = level);
-        beam.ray[lost] = ENTRY;
-        beam.ray[3 + lost] = pow2(-5);
-        beam.ray[3 + kept] = pow2(-rng.between(80, 85));
+        beam.ray[RAY_O][lost] = ENTRY;
+        beam.ray[RAY_D][lost] = pow2(-5);
+        beam.ray[RAY_D][kept] = pow2(-rng.between(80, 85));
         (0..3).for_each(|i| beam.world_to_object[5 * i] = pow2(10));
 
         points
@@ -746,9 +750,9 @@ fn any(rng: &mut Rng) -> Beam {
     let piece = valid_piece(rng);
     let world_to_object = matrix(rng);
     let world_to_object = within(rng, world_to_object);
-    let ray: [f32; 8] = rng.floats();
+    let ray: [f32; RAY_FLOATS] = rng.floats();
     let mut ray = ray.map(|x| limited(rng, x));
-    ray[6] = rng.pick(&[f32::INFINITY, ray[6].abs()]);
+    ray[RAY_T_MAX] = rng.pick(&[f32::INFINITY, ray[RAY_T_MAX].abs()]);
 
     Beam {
         piece,
@@ -762,9 +766,9 @@ fn any(rng: &mut Rng) -> Beam {
 /// t_max where the hit is, or next to it.
 pub fn end_at_hit(rng: &mut Rng, beam: &mut Beam) {
     if let Reply::Hit(_, record) = flat::read(beam).reply {
-        let t = record[0];
+        let t = record[RECORD_T];
         if t > 0.0 && t.is_finite() {
-            beam.ray[6] = neighbour(t, rng.between(-1, 1));
+            beam.ray[RAY_T_MAX] = neighbour(t, rng.between(-1, 1));
         }
     }
 }
@@ -780,13 +784,13 @@ fn spoil(rng: &mut Rng, beam: &mut Beam) {
     };
     match rng.below(8) {
         0 | 1 => spoil_piece(rng, &mut beam.piece),
-        2 => beam.object_to_world[rng.below(16) as usize] = number,
-        3 => beam.world_to_object[rng.below(16) as usize] = number,
+        2 => *rng.one_of(&mut beam.object_to_world) = number,
+        3 => *rng.one_of(&mut beam.world_to_object) = number,
         4 => {
             let wrong = [-pow2(-149), -1.0, f32::NEG_INFINITY, f32::NAN, -0.0];
-            beam.ray[6] = rng.pick(&wrong);
+            beam.ray[RAY_T_MAX] = rng.pick(&wrong);
         }
-        _ => beam.ray[rng.below(8) as usize] = number,
+        _ => *rng.one_of(&mut beam.ray) = number,
     }
 }
 

@@ -83,21 +83,16 @@ pub const KINDS: &[Kind] = &[
         inputs::swaps_handedness,
         swaps_handedness,
     ),
-    kind(
-        "area",
-        "piece(16) -> status [area]",
-        curve_inputs::piece,
-        area,
-    ),
+    kind("area", "piece -> status [area]", curve_inputs::piece, area),
     kind(
         "object_bound",
-        "piece(16) -> status [p_min(3) p_max(3)]",
+        "piece -> status [p_min(3) p_max(3)]",
         curve_inputs::piece,
         object_bound,
     ),
     kind(
         "world_bound",
-        "piece(16) object_to_world(16) -> status [p_min(3) p_max(3)]",
+        "piece object_to_world(16) -> status [p_min(3) p_max(3)]",
         curve_inputs::world_bound,
         world_bound,
     ),
@@ -110,7 +105,7 @@ pub const KINDS: &[Kind] = &[
     ),
     kind(
         "intersect",
-        "piece(16) object_to_world(16) world_to_object(16) reverse o(3) d(3) t_max time -> \
+        "piece object_to_world(16) world_to_object(16) reverse o(3) d(3) t_max time -> \
          status [looked [t u v p(3) error(3) time wo(3) n(3) dpdu(3) dpdv(3)]]",
         beam_inputs::intersect,
         intersect,
