@@ -3,14 +3,14 @@
 //! point of the belt or beside it, and a row keeps the first beams that ours answers as the row wants it.
 
 use crate::cubic;
-use crate::layout::{UMAX, UMIN};
+use crate::layout::{MATRIX_FLOATS, RAY_FLOATS, UMAX, UMIN};
 use crate::ours::{self, Answer};
 use crate::piece::{self, Piece};
 use crate::vector::{cross, difference, length, normal, scaled, sum, Vector};
 use std::sync::Arc;
 
 /// By rows.
-pub type Matrix = [f32; 16];
+pub type Matrix = [f32; MATRIX_FLOATS];
 
 pub struct Place {
     pub object_to_world: Matrix,
@@ -21,8 +21,7 @@ pub struct Beam {
     pub piece: Piece,
     pub place: Arc<Place>,
     pub reverse: bool,
-    /// Origin, direction, t_max, time.
-    pub ray: [f32; 8],
+    pub ray: [f32; RAY_FLOATS],
 }
 
 /// What laying takes.
@@ -146,7 +145,9 @@ pub fn pieces() -> Vec<(Piece, Arc<Place>)> {
 pub fn segments() -> Vec<Belt> {
     let mut rng = Rng(6);
     let mut one = || Belt {
-        points: (0..12).map(|_| rng.between(-100.0, 100.0) as f32).collect(),
+        points: (0..4 * 3)
+            .map(|_| rng.between(-100.0, 100.0) as f32)
+            .collect(),
         spline: false,
         widths: [0.5, 0.75],
         split: 10,
@@ -180,7 +181,7 @@ pub fn spiral(rng: &mut Rng) -> Belt {
 }
 
 /// From above or below through the spiral, where its points are.
-pub fn ray_through(rng: &mut Rng, belt: &Belt) -> [f32; 8] {
+pub fn ray_through(rng: &mut Rng, belt: &Belt) -> [f32; RAY_FLOATS] {
     let i = 3 * rng.below(belt.points.len() as u64 / 3) as usize;
     let aim: Vector = std::array::from_fn(|k| belt.points[i + k] as f64);
     let aim = sum(aim, rng.vector(0.4));
@@ -320,7 +321,7 @@ fn transformed(m: &Matrix, v: Vector, weight: f64) -> Vector {
     })
 }
 
-fn floats(origin: Vector, direction: Vector, t_max: f32) -> [f32; 8] {
+fn floats(origin: Vector, direction: Vector, t_max: f32) -> [f32; RAY_FLOATS] {
     let [ox, oy, oz] = origin.map(|x| x as f32);
     let [dx, dy, dz] = direction.map(|x| x as f32);
 

@@ -1,6 +1,7 @@
 //! The rows of the table: inputs, both sides, and that both give the same.
 
 use crate::draw::{self, Beam, Belt, Place};
+use crate::layout::BOX_FLOATS;
 use crate::piece::Piece;
 use crate::time::Timed;
 use crate::{mix, ours, rust, sheet};
@@ -102,7 +103,7 @@ fn same(a: &[f32], b: &[f32]) -> bool {
 }
 
 /// In boxes a zero may have either sign.
-fn same_box(a: &[f32; 6], b: &[f32; 6]) -> bool {
+fn same_box(a: &[f32; BOX_FLOATS], b: &[f32; BOX_FLOATS]) -> bool {
     same(&a.map(|x| x + 0.0), &b.map(|x| x + 0.0))
 }
 

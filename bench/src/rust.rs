@@ -3,8 +3,9 @@
 //! `intersect` takes as `s`. The interaction that it fills is the caller's, and is made once.
 
 use crate::draw::{Beam, Belt, Matrix, Place};
+use crate::layout::{BOX_FLOATS, RAY_FLOATS};
 use crate::piece::{self, Piece, Transforms};
-use crate::record::record;
+use crate::record::{record, Record};
 use pbrt::core::geometry::bounds::Bounds3f;
 use pbrt::core::geometry::point::Point3f;
 use pbrt::core::geometry::ray::Ray;
@@ -21,7 +22,7 @@ use std::time::{Duration, Instant};
 /// A curve and a ray at it.
 pub struct Aimed {
     shape: Arc<Shapes>,
-    ray: [f32; 8],
+    ray: [f32; RAY_FLOATS],
 }
 
 pub fn aimed(beams: &[Beam]) -> Vec<Aimed> {
@@ -71,7 +72,7 @@ fn shape(piece: &Piece, transforms: Transforms, reverse: bool) -> Arc<Shapes> {
 
 impl Aimed {
     /// The record of a hit, as ours has it.
-    pub fn answer(&self) -> Option<[f32; 22]> {
+    pub fn answer(&self) -> Option<Record> {
         let mut t = 0.0;
         let mut isect = SurfaceInteraction::default();
         let hit = self.intersect(&mut t, &mut isect);
@@ -90,7 +91,7 @@ impl Aimed {
     }
 }
 
-pub fn corners(bounds: Bounds3f) -> [f32; 6] {
+pub fn corners(bounds: Bounds3f) -> [f32; BOX_FLOATS] {
     let Bounds3f { p_min, p_max } = bounds;
 
     [p_min.x, p_min.y, p_min.z, p_max.x, p_max.y, p_max.z]
