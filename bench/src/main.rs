@@ -8,7 +8,6 @@ mod rust;
 mod sheet;
 mod table;
 mod time;
-mod vector;
 
 // What is shared with the wrapper and the oracle. Not all that the first names is needed here.
 #[allow(dead_code)]
@@ -17,10 +16,14 @@ mod layout;
 
 #[path = "../../oracle/src/cubic.rs"]
 mod cubic;
+#[path = "../../oracle/src/params.rs"]
+mod params;
 #[path = "../../oracle/src/piece.rs"]
 mod piece;
 #[path = "../../oracle/src/record.rs"]
 mod record;
+#[path = "../../oracle/src/vector.rs"]
+mod vector;
 
 use std::path::Path;
 use std::process::exit;

@@ -4,6 +4,7 @@
 
 use crate::draw::{Beam, Belt, Matrix, Place};
 use crate::layout::{BOX_FLOATS, RAY_FLOATS};
+use crate::params;
 use crate::piece::{self, Piece, Transforms};
 use crate::record::{record, Record};
 use pbrt::core::geometry::bounds::Bounds3f;
@@ -99,18 +100,9 @@ pub fn corners(bounds: Bounds3f) -> [f32; BOX_FLOATS] {
 
 /// What create_curve_shape looks up.
 pub fn params(belt: &Belt) -> ParamSet {
-    let point = |p: &[f32]| Point3f::new(p[0], p[1], p[2]);
     let basis = if belt.spline { "bspline" } else { "bezier" };
-    let mut set = ParamSet::default();
-    set.add_int("degree", vec![3]);
-    set.add_string("basis", vec![basis.to_string()]);
-    set.add_string("type", vec!["flat".to_string()]);
-    set.add_float("width0", vec![belt.widths[0]]);
-    set.add_float("width1", vec![belt.widths[1]]);
-    set.add_int("splitdepth", vec![belt.split as isize]);
-    set.add_point3f("P", belt.points.chunks(3).map(point).collect());
 
-    set
+    params::set(3, basis, belt.widths, belt.split, &belt.points)
 }
 
 pub fn laid(params: &ParamSet, identity: &Arc<Transform>) -> Vec<Arc<Shapes>> {
@@ -119,10 +111,7 @@ pub fn laid(params: &ParamSet, identity: &Arc<Transform>) -> Vec<Arc<Shapes>> {
 
 /// The pieces' floats, as ours has them.
 pub fn floats(shapes: &[Arc<Shapes>]) -> Vec<f32> {
-    shapes
-        .iter()
-        .flat_map(|shape| piece::from_shape(shape))
-        .collect()
+    shapes.iter().flat_map(piece::from_shape).collect()
 }
 
 pub fn time_beams(beams: &[Aimed], times: u32) -> Duration {

@@ -11,12 +11,10 @@ use crate::layout::{
 };
 use crate::piece::{self, Piece};
 use crate::rng::{neighbour, pow2, Rng};
+use crate::vector::{cross, normal, scaled, Vector};
 use crate::words::Words;
 use pbrt::core::geometry::vector::Vector3f;
 use pbrt::core::transform::Matrix4x4;
-
-/// For aiming, which need not be exact.
-type Triple64 = [f64; 3];
 
 pub fn intersect(rng: &mut Rng, words: &mut Words) {
     let mut beam = match rng.below(100) {
@@ -193,8 +191,8 @@ fn moved(mut piece: Piece, by: Triple) -> Piece {
 
 /// A point of the belt, with the tangent and half the width there.
 struct Place {
-    point: Triple64,
-    tangent: Triple64,
+    point: Vector,
+    tangent: Vector,
     half: f64,
 }
 
@@ -252,8 +250,8 @@ pub fn ray_at(rng: &mut Rng, piece: &Piece) -> [f32; RAY_FLOATS] {
 
 /// A ray at a point of the belt, in the belt's frame.
 struct Aim {
-    origin: Triple64,
-    direction: Triple64,
+    origin: Vector,
+    direction: Vector,
     /// Of the direction.
     length: f64,
     distance: f64,
@@ -303,9 +301,9 @@ fn t_max(rng: &mut Rng, aim: &Aim) -> f32 {
     }
 }
 
-fn direction(rng: &mut Rng, piece: &Piece, place: &Place) -> Triple64 {
+fn direction(rng: &mut Rng, piece: &Piece, place: &Place) -> Vector {
     let p = piece::points(piece).map(|p| p.map(f64::from));
-    let to = |i: usize| -> Triple64 { std::array::from_fn(|k| p[i][k] - p[0][k]) };
+    let to = |i: usize| -> Vector { std::array::from_fn(|k| p[i][k] - p[0][k]) };
     let any = unit(rng).map(f64::from);
     let wanted = match rng.below(16) {
         // Along the chord, and the tangent.
@@ -338,7 +336,7 @@ fn axis(rng: &mut Rng) -> Triple {
 }
 
 /// The beam that becomes this one in the belt's frame, as near as that can be had.
-fn placed(rng: &mut Rng, piece: Piece, origin: Triple64, direction: Triple64) -> Beam {
+fn placed(rng: &mut Rng, piece: Piece, origin: Vector, direction: Vector) -> Beam {
     let mut world_to_object = world_to_object(rng);
     let mut ray = in_world(&world_to_object, origin, direction);
     if ray.is_none() && !rng.one_in(4) {
@@ -362,7 +360,7 @@ fn placed(rng: &mut Rng, piece: Piece, origin: Triple64, direction: Triple64) ->
 }
 
 /// None where the matrix is singular, or the origin beyond 01's limit.
-fn in_world(m: &Matrix, origin: Triple64, direction: Triple64) -> Option<[f32; 6]> {
+fn in_world(m: &Matrix, origin: Vector, direction: Vector) -> Option<[f32; 6]> {
     let row = |i: usize| [0, 1, 2, 3].map(|k| m[4 * i + k] as f64);
     let [x, y, z] = origin;
     let [x, y, z, w] = solved([row(0), row(1), row(2), row(3)], [x, y, z, 1.0])?;
@@ -795,28 +793,6 @@ fn spoil(rng: &mut Rng, beam: &mut Beam) {
 }
 
 // Aiming.
-
-fn cross(a: Triple64, b: Triple64) -> Triple64 {
-    [
-        a[1] * b[2] - a[2] * b[1],
-        a[2] * b[0] - a[0] * b[2],
-        a[0] * b[1] - a[1] * b[0],
-    ]
-}
-
-fn scaled(v: Triple64, by: f64) -> Triple64 {
-    v.map(|x| x * by)
-}
-
-/// Zero stays zero.
-fn normal(v: Triple64) -> Triple64 {
-    let length = v.iter().map(|x| x * x).sum::<f64>().sqrt();
-    if length > 0.0 {
-        scaled(v, 1.0 / length)
-    } else {
-        [0.0; 3]
-    }
-}
 
 /// The x with a x = b, unless a is singular.
 fn solved<const N: usize>(mut a: [[f64; N]; N], mut b: [f64; N]) -> Option<[f64; N]> {

@@ -1,14 +1,13 @@
 //! What can be asked: for each kind its layout, its inputs and the call of the supplied Rust.
 
 use crate::limits::{self, ShapeParams};
+use crate::params;
 use crate::piece::{self, Piece};
 use crate::rng::Rng;
 use crate::words::{put, put_bounds, put_matrix, put_point, put_vector, Reader, Words};
 use crate::{beam, beam_inputs, curve_inputs, inputs};
-use pbrt::core::geometry::point::Point3f;
 use pbrt::core::geometry::ray::Ray;
 use pbrt::core::geometry::vector::{vec3_coordinate_system, Vector3f};
-use pbrt::core::paramset::ParamSet;
 use pbrt::core::shape::{Shape, Shapes};
 use pbrt::core::transform::{Matrix4x4, Transform};
 use pbrt::shapes::curve::{self, Curve};
@@ -272,25 +271,19 @@ pub fn laid(params: &ShapeParams) -> Result<Vec<Piece>, u32> {
     let curves = curves_of(params);
     assert_eq!(pieces, curves.len() as i64);
 
-    Ok(curves
-        .iter()
-        .map(|shape| piece::from_shape(shape))
-        .collect())
+    Ok(curves.iter().map(piece::from_shape).collect())
 }
 
-/// The Rust's call, given each parameter that it looks up for flat curves.
+/// The Rust's call.
 fn curves_of(params: &ShapeParams) -> Vec<Arc<Shapes>> {
-    let point = |p: &[f32]| Point3f::new(p[0], p[1], p[2]);
-    let points = params.floats.chunks(3).map(point).collect();
     let basis = ["bezier", "bspline"][params.basis as usize];
-    let mut set = ParamSet::default();
-    set.add_int("degree", vec![params.degree as isize]);
-    set.add_string("basis", vec![basis.to_string()]);
-    set.add_string("type", vec!["flat".to_string()]);
-    set.add_float("width0", vec![params.widths[0]]);
-    set.add_float("width1", vec![params.widths[1]]);
-    set.add_int("splitdepth", vec![params.split as isize]);
-    set.add_point3f("P", points);
+    let set = params::set(
+        params.degree,
+        basis,
+        params.widths,
+        params.split,
+        &params.floats,
+    );
     let transform = Arc::new(Transform::default());
 
     curve::create_curve_shape(transform.clone(), transform, false, &set)

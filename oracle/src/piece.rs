@@ -23,8 +23,8 @@ pub fn from_parts(points: &[[f32; 3]], widths: [f32; 2], u: [f32; 2]) -> Piece {
 }
 
 /// Of a curve that the Rust laid.
-pub fn from_shape(shape: &Shapes) -> Piece {
-    let Shapes::Curve(curve) = shape;
+pub fn from_shape(shape: &Arc<Shapes>) -> Piece {
+    let Shapes::Curve(curve) = shape.as_ref();
     let (points, widths, u) = curve::parts(curve);
 
     from_parts(&points.map(|p| [p.x, p.y, p.z]), widths, u)
