@@ -74,56 +74,44 @@ impl Rng {
 
 /// Beside a bent belt, by up to 40 halves of its width: thrown out before the walk.
 pub fn thrown_out() -> Vec<Beam> {
-    let beam = |rng: &mut Rng, place: &_| {
-        let beside = rng.between(-40.0, 40.0);
-        let piece = bent(rng);
-        aimed(rng, piece, place, beside)
-    };
-
-    chosen(1, beam, |answer| answer.status == 1 && answer.looked == 0)
+    chosen(1, bent, 40.0, |answer| {
+        answer.status == 1 && answer.looked == 0
+    })
 }
 
 /// Beside a bent belt, by up to six halves of its width: a miss after a walk.
 pub fn walking_miss() -> Vec<Beam> {
-    let beam = |rng: &mut Rng, place: &_| {
-        let beside = rng.between(-6.0, 6.0);
-        let piece = bent(rng);
-        aimed(rng, piece, place, beside)
-    };
-
-    chosen(2, beam, |answer| answer.status == 1 && answer.looked > 1)
+    chosen(2, bent, 6.0, |answer| {
+        answer.status == 1 && answer.looked > 1
+    })
 }
 
 /// On a nearly straight belt. A hit with one look is one at depth 0.
 pub fn plain_hit() -> Vec<Beam> {
-    let beam = |rng: &mut Rng, place: &_| {
-        let beside = rng.between(-0.9, 0.9);
-        let piece = nearly_straight(rng);
-        aimed(rng, piece, place, beside)
-    };
-
-    chosen(3, beam, |answer| answer.status == 0 && answer.looked == 1)
+    chosen(3, nearly_straight, 0.9, |answer| {
+        answer.status == 0 && answer.looked == 1
+    })
 }
 
 /// On a long thin belt that bends so much that the depth is 10.
 pub fn deep_hit() -> Vec<Beam> {
-    let beam = |rng: &mut Rng, place: &_| {
-        let beside = rng.between(-0.9, 0.9);
-        let piece = long_and_thin(rng);
-        aimed(rng, piece, place, beside)
-    };
-
-    chosen(4, beam, |answer| answer.status == 0)
+    chosen(4, long_and_thin, 0.9, |answer| answer.status == 0)
 }
 
+/// Each at a belt of its own, up to so many halves of its width beside the middle.
 fn chosen(
     seed: u64,
-    beam: impl Fn(&mut Rng, &Arc<Place>) -> Beam,
-    wanted: impl Fn(&Answer) -> bool,
+    belt: fn(&mut Rng) -> Piece,
+    halves: f64,
+    wanted: fn(&Answer) -> bool,
 ) -> Vec<Beam> {
     let mut rng = Rng(seed);
     let place = Arc::new(place(&mut rng));
-    let drawn = std::iter::repeat_with(|| beam(&mut rng, &place));
+    let drawn = std::iter::repeat_with(|| {
+        let beside = rng.between(-halves, halves);
+        let piece = belt(&mut rng);
+        aimed(&mut rng, piece, &place, beside)
+    });
 
     drawn
         .filter(|beam| wanted(&ours::answer(beam)))
