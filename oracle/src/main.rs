@@ -43,8 +43,8 @@ fn usage() -> String {
          \n\
          Words of eight hexadecimal digits; a NaN is 7fc00000. A line without an answer is one on which\n\
          the Rust panics because a length or a weight is zero. A status is 0, or 1 for a miss, or the\n\
-         number of 01's refusal, behind which nothing follows. A piece is {CURVE_FLOATS} words: four points,\n\
-         two widths, umin and umax.\n\n"
+         number of 01's refusal, behind which nothing follows. A piece is {CURVE_FLOATS} words, in the order of\n\
+         bindings/rust/src/layout.rs.\n\n"
     );
     for kind in KINDS {
         text += &format!("{:20} {}\n", kind.name, kind.layout);
