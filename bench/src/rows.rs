@@ -2,7 +2,7 @@
 
 use crate::draw::{self, Beam, Belt, Place};
 use crate::layout::BOX_FLOATS;
-use crate::piece::Piece;
+use crate::piece::{self, Piece};
 use crate::time::Timed;
 use crate::{mix, ours, rust, sheet};
 use pbrt::core::shape::{Shape, Shapes};
@@ -140,7 +140,8 @@ fn laying(title: &'static str, belts: Vec<Belt>) -> Row {
         let mut list = Box::new([0.0; ours::LIST]);
         assert_eq!(ours::laid(belt, &mut list), 1024);
         let shapes = rust::laid(params, &identity);
-        assert!(same(list.as_slice(), &rust::floats(&shapes)));
+        let pieces = piece::from_shapes(&shapes);
+        assert!(same(list.as_slice(), pieces.as_flattened()));
     }
 
     Row {

@@ -109,11 +109,6 @@ pub fn laid(params: &ParamSet, identity: &Arc<Transform>) -> Vec<Arc<Shapes>> {
     curve::create_curve_shape(identity.clone(), identity.clone(), false, params)
 }
 
-/// The pieces' floats, as ours has them.
-pub fn floats(shapes: &[Arc<Shapes>]) -> Vec<f32> {
-    shapes.iter().flat_map(piece::from_shape).collect()
-}
-
 pub fn time_beams(beams: &[Aimed], times: u32) -> Duration {
     let mut t = 0.0;
     let mut isect = SurfaceInteraction::default();

@@ -271,7 +271,7 @@ pub fn laid(params: &ShapeParams) -> Result<Vec<Piece>, u32> {
     let curves = curves_of(params);
     assert_eq!(pieces, curves.len() as i64);
 
-    Ok(curves.iter().map(piece::from_shape).collect())
+    Ok(piece::from_shapes(&curves))
 }
 
 /// The Rust's call.

@@ -22,12 +22,15 @@ pub fn from_parts(points: &[[f32; 3]], widths: [f32; 2], u: [f32; 2]) -> Piece {
     piece
 }
 
-/// Of a curve that the Rust laid.
-pub fn from_shape(shape: &Arc<Shapes>) -> Piece {
-    let Shapes::Curve(curve) = shape.as_ref();
-    let (points, widths, u) = curve::parts(curve);
+/// Of the curves that the Rust laid, in order.
+pub fn from_shapes(shapes: &[Arc<Shapes>]) -> Vec<Piece> {
+    let piece = |shape: &Arc<Shapes>| {
+        let Shapes::Curve(curve) = shape.as_ref();
+        let (points, widths, u) = curve::parts(curve);
+        from_parts(&points.map(|p| [p.x, p.y, p.z]), widths, u)
+    };
 
-    from_parts(&points.map(|p| [p.x, p.y, p.z]), widths, u)
+    shapes.iter().map(piece).collect()
 }
 
 /// The curve that a piece stands for.
