@@ -30,7 +30,7 @@ pub const UP: Ray = Ray {
 /// What stands in a list before a call.
 pub const MARK: f32 = -77.5;
 
-/// As many floats as a curve does not have, at most those of two.
+/// Counts of floats that are no curve, up to those of two curves.
 pub const WRONG_LENGTHS: [usize; 5] = [0, 1, CURVE_FLOATS - 1, CURVE_FLOATS + 1, 2 * CURVE_FLOATS];
 
 pub fn marked_list() -> Vec<f32> {
