@@ -2,19 +2,15 @@
 //! turned and moved, and shared by all beams of a row, as a scene's curves share theirs. A beam is aimed at a
 //! point of the belt or beside it, and a row keeps the first beams that ours answers as the row wants it.
 
+use crate::cubic;
+use crate::layout::{MATRIX_FLOATS, RAY_FLOATS, UMAX, UMIN};
 use crate::ours::{self, Answer};
+use crate::piece::{self, Piece};
 use crate::vector::{cross, difference, length, normal, scaled, sum, Vector};
-use cubic::at;
 use std::sync::Arc;
 
-#[path = "../../oracle/src/cubic.rs"]
-mod cubic;
-
-/// Four points, two widths, umin, umax.
-pub type Piece = [f32; 16];
-
 /// By rows.
-pub type Matrix = [f32; 16];
+pub type Matrix = [f32; MATRIX_FLOATS];
 
 pub struct Place {
     pub object_to_world: Matrix,
@@ -25,8 +21,7 @@ pub struct Beam {
     pub piece: Piece,
     pub place: Arc<Place>,
     pub reverse: bool,
-    /// Origin, direction, t_max, time.
-    pub ray: [f32; 8],
+    pub ray: [f32; RAY_FLOATS],
 }
 
 /// What laying takes.
@@ -79,56 +74,44 @@ impl Rng {
 
 /// Beside a bent belt, by up to 40 halves of its width: thrown out before the walk.
 pub fn thrown_out() -> Vec<Beam> {
-    let beam = |rng: &mut Rng, place: &_| {
-        let beside = rng.between(-40.0, 40.0);
-        let piece = bent(rng);
-        aimed(rng, piece, place, beside)
-    };
-
-    chosen(1, beam, |answer| answer.status == 1 && answer.looked == 0)
+    chosen(1, bent, 40.0, |answer| {
+        answer.status == 1 && answer.looked == 0
+    })
 }
 
 /// Beside a bent belt, by up to six halves of its width: a miss after a walk.
 pub fn walking_miss() -> Vec<Beam> {
-    let beam = |rng: &mut Rng, place: &_| {
-        let beside = rng.between(-6.0, 6.0);
-        let piece = bent(rng);
-        aimed(rng, piece, place, beside)
-    };
-
-    chosen(2, beam, |answer| answer.status == 1 && answer.looked > 1)
+    chosen(2, bent, 6.0, |answer| {
+        answer.status == 1 && answer.looked > 1
+    })
 }
 
 /// On a nearly straight belt. A hit with one look is one at depth 0.
 pub fn plain_hit() -> Vec<Beam> {
-    let beam = |rng: &mut Rng, place: &_| {
-        let beside = rng.between(-0.9, 0.9);
-        let piece = nearly_straight(rng);
-        aimed(rng, piece, place, beside)
-    };
-
-    chosen(3, beam, |answer| answer.status == 0 && answer.looked == 1)
+    chosen(3, nearly_straight, 0.9, |answer| {
+        answer.status == 0 && answer.looked == 1
+    })
 }
 
 /// On a long thin belt that bends so much that the depth is 10.
 pub fn deep_hit() -> Vec<Beam> {
-    let beam = |rng: &mut Rng, place: &_| {
-        let beside = rng.between(-0.9, 0.9);
-        let piece = long_and_thin(rng);
-        aimed(rng, piece, place, beside)
-    };
-
-    chosen(4, beam, |answer| answer.status == 0)
+    chosen(4, long_and_thin, 0.9, |answer| answer.status == 0)
 }
 
+/// Each at a belt of its own, up to so many halves of its width beside the middle.
 fn chosen(
     seed: u64,
-    beam: impl Fn(&mut Rng, &Arc<Place>) -> Beam,
-    wanted: impl Fn(&Answer) -> bool,
+    belt: fn(&mut Rng) -> Piece,
+    halves: f64,
+    wanted: fn(&Answer) -> bool,
 ) -> Vec<Beam> {
     let mut rng = Rng(seed);
     let place = Arc::new(place(&mut rng));
-    let drawn = std::iter::repeat_with(|| beam(&mut rng, &place));
+    let drawn = std::iter::repeat_with(|| {
+        let beside = rng.between(-halves, halves);
+        let piece = belt(&mut rng);
+        aimed(&mut rng, piece, &place, beside)
+    });
 
     drawn
         .filter(|beam| wanted(&ours::answer(beam)))
@@ -150,7 +133,9 @@ pub fn pieces() -> Vec<(Piece, Arc<Place>)> {
 pub fn segments() -> Vec<Belt> {
     let mut rng = Rng(6);
     let mut one = || Belt {
-        points: (0..12).map(|_| rng.between(-100.0, 100.0) as f32).collect(),
+        points: (0..4 * 3)
+            .map(|_| rng.between(-100.0, 100.0) as f32)
+            .collect(),
         spline: false,
         widths: [0.5, 0.75],
         split: 10,
@@ -184,7 +169,7 @@ pub fn spiral(rng: &mut Rng) -> Belt {
 }
 
 /// From above or below through the spiral, where its points are.
-pub fn ray_through(rng: &mut Rng, belt: &Belt) -> [f32; 8] {
+pub fn ray_through(rng: &mut Rng, belt: &Belt) -> [f32; RAY_FLOATS] {
     let i = 3 * rng.below(belt.points.len() as u64 / 3) as usize;
     let aim: Vector = std::array::from_fn(|k| belt.points[i + k] as f64);
     let aim = sum(aim, rng.vector(0.4));
@@ -243,14 +228,10 @@ fn long_and_thin(rng: &mut Rng) -> Piece {
 
 fn piece(rng: &mut Rng, points: [Vector; 4], width: f64, u: [f64; 2]) -> Piece {
     let other = width * rng.between(1.0, 1.25);
-    let numbers = points.as_flattened().iter().copied();
-    let numbers: Vec<f32> = numbers
-        .chain([width, other])
-        .chain(u)
-        .map(|x| x as f32)
-        .collect();
+    let points = points.map(|p| p.map(|x| x as f32));
+    let [widths, u] = [[width, other], u].map(|pair| pair.map(|x| x as f32));
 
-    numbers.try_into().expect("sixteen numbers")
+    piece::from_parts(&points, widths, u)
 }
 
 /// A turn and a move.
@@ -286,9 +267,9 @@ fn matrix(entry: impl Fn(usize, usize) -> f64) -> Matrix {
 
 /// At a point of the belt, so many halves of its width beside its middle, from anywhere but along the belt.
 fn aimed(rng: &mut Rng, piece: Piece, place: &Arc<Place>, beside: f64) -> Beam {
-    let u = rng.between(piece[14] as f64, piece[15] as f64);
-    let (point, tangent) = at(&piece, u);
-    let half = 0.5 * (piece[12] as f64 * (1.0 - u) + piece[13] as f64 * u);
+    let u = rng.between(piece[UMIN] as f64, piece[UMAX] as f64);
+    let (point, tangent) = cubic::at(&piece, u);
+    let half = cubic::half_width(&piece, u);
     let (direction, across) = loop {
         let direction = rng.direction();
         let across = cross(direction, normal(tangent));
@@ -328,7 +309,7 @@ fn transformed(m: &Matrix, v: Vector, weight: f64) -> Vector {
     })
 }
 
-fn floats(origin: Vector, direction: Vector, t_max: f32) -> [f32; 8] {
+fn floats(origin: Vector, direction: Vector, t_max: f32) -> [f32; RAY_FLOATS] {
     let [ox, oy, oz] = origin.map(|x| x as f32);
     let [dx, dy, dz] = direction.map(|x| x as f32);
 

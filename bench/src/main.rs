@@ -8,6 +8,21 @@ mod rust;
 mod sheet;
 mod table;
 mod time;
+
+// What is shared with the wrapper and the oracle. Not all that the first names is needed here.
+#[allow(dead_code)]
+#[path = "../../bindings/rust/src/layout.rs"]
+mod layout;
+
+#[path = "../../oracle/src/cubic.rs"]
+mod cubic;
+#[path = "../../oracle/src/params.rs"]
+mod params;
+#[path = "../../oracle/src/piece.rs"]
+mod piece;
+#[path = "../../oracle/src/record.rs"]
+mod record;
+#[path = "../../oracle/src/vector.rs"]
 mod vector;
 
 use std::path::Path;

@@ -3,6 +3,7 @@
 
 use crate::draw::{Beam, Place};
 use std::path::Path;
+use std::str::Split;
 use std::sync::Arc;
 
 /// A beam, and at how many parts of the piece the Rust looks as the oracle counts it.
@@ -11,8 +12,8 @@ pub struct Counted {
     pub looked: u32,
 }
 
-/// From the lines of `oracle intersect`: piece(16) object_to_world(16) world_to_object(16) reverse o(3) d(3)
-/// t_max time, then status [looked [..]].
+/// From the lines of `oracle intersect`: piece object_to_world world_to_object reverse ray, then status
+/// [looked [..]].
 pub fn read(lines: &Path) -> Vec<Counted> {
     let text = std::fs::read_to_string(lines)
         .unwrap_or_else(|error| panic!("{}: {error}", lines.display()));
@@ -21,28 +22,31 @@ pub fn read(lines: &Path) -> Vec<Counted> {
 }
 
 fn counted(line: &str) -> Option<Counted> {
-    let word = |word| u32::from_str_radix(word, 16).expect("a line of the oracle");
-    let words: Vec<u32> = line.split(' ').map(word).collect();
-    let status = words[57];
+    let mut words = line.split(' ');
+    let beam = Beam {
+        piece: floats(&mut words),
+        place: Arc::new(Place {
+            object_to_world: floats(&mut words),
+            world_to_object: floats(&mut words),
+        }),
+        reverse: word(&mut words) == 1,
+        ray: floats(&mut words),
+    };
+    let status = word(&mut words);
     if status > 1 {
         return None;
     }
-    let beam = Beam {
-        piece: floats(&words[..16]),
-        place: Arc::new(Place {
-            object_to_world: floats(&words[16..32]),
-            world_to_object: floats(&words[32..48]),
-        }),
-        reverse: words[48] == 1,
-        ray: floats(&words[49..57]),
-    };
+    let looked = word(&mut words);
 
-    Some(Counted {
-        beam,
-        looked: words[58],
-    })
+    Some(Counted { beam, looked })
 }
 
-fn floats<const N: usize>(words: &[u32]) -> [f32; N] {
-    std::array::from_fn(|i| f32::from_bits(words[i]))
+fn word(words: &mut Split<char>) -> u32 {
+    let word = words.next().map(|word| u32::from_str_radix(word, 16));
+
+    word.and_then(Result::ok).expect("a line of the oracle")
+}
+
+fn floats<const N: usize>(words: &mut Split<char>) -> [f32; N] {
+    std::array::from_fn(|_| f32::from_bits(word(words)))
 }

@@ -1,6 +1,9 @@
 //! The library's C functions, and how they are timed.
 
-use crate::draw::{Beam, Belt, Matrix, Piece};
+use crate::draw::{Beam, Belt, Matrix};
+use crate::layout::{BOX_FLOATS, CURVE_FLOATS, MOST_CURVES};
+use crate::piece::Piece;
+use crate::record::Record;
 use declared::*;
 use std::hint::black_box;
 use std::time::{Duration, Instant};
@@ -10,15 +13,14 @@ use std::time::{Duration, Instant};
 #[path = "../../bindings/rust/src/declared.rs"]
 mod declared;
 
-pub const LIST: usize = 16 * 1024;
+pub const LIST: usize = CURVE_FLOATS * MOST_CURVES;
 
 #[derive(Default)]
 pub struct Answer {
     /// 0 a hit, 1 a miss, else a refusal.
     pub status: u32,
     pub looked: u32,
-    /// t, u, v, p, error, time, wo, n, dpdu, dpdv.
-    pub record: [f32; 22],
+    pub record: Record,
 }
 
 pub fn answer(beam: &Beam) -> Answer {
@@ -69,11 +71,11 @@ pub fn laid(belt: &Belt, list: &mut [f32; LIST]) -> u32 {
     pieces
 }
 
-pub fn bound(piece: &Piece, out: &mut [f32; 6]) -> u32 {
+pub fn bound(piece: &Piece, out: &mut [f32; BOX_FLOATS]) -> u32 {
     unsafe { curve_object_bound(piece.as_ptr(), piece.len(), out) }
 }
 
-pub fn world_bound(piece: &Piece, object_to_world: &Matrix, out: &mut [f32; 6]) -> u32 {
+pub fn world_bound(piece: &Piece, object_to_world: &Matrix, out: &mut [f32; BOX_FLOATS]) -> u32 {
     unsafe { curve_world_bound(piece.as_ptr(), piece.len(), object_to_world, out) }
 }
 

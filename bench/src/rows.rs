@@ -1,6 +1,8 @@
 //! The rows of the table: inputs, both sides, and that both give the same.
 
-use crate::draw::{self, Beam, Belt, Piece, Place};
+use crate::draw::{self, Beam, Belt, Place};
+use crate::layout::BOX_FLOATS;
+use crate::piece::{self, Piece};
 use crate::time::Timed;
 use crate::{mix, ours, rust, sheet};
 use pbrt::core::shape::{Shape, Shapes};
@@ -101,7 +103,7 @@ fn same(a: &[f32], b: &[f32]) -> bool {
 }
 
 /// In boxes a zero may have either sign.
-fn same_box(a: &[f32; 6], b: &[f32; 6]) -> bool {
+fn same_box(a: &[f32; BOX_FLOATS], b: &[f32; BOX_FLOATS]) -> bool {
     same(&a.map(|x| x + 0.0), &b.map(|x| x + 0.0))
 }
 
@@ -138,7 +140,8 @@ fn laying(title: &'static str, belts: Vec<Belt>) -> Row {
         let mut list = Box::new([0.0; ours::LIST]);
         assert_eq!(ours::laid(belt, &mut list), 1024);
         let shapes = rust::laid(params, &identity);
-        assert!(same(list.as_slice(), &rust::floats(&shapes)));
+        let pieces = piece::from_shapes(&shapes);
+        assert!(same(list.as_slice(), pieces.as_flattened()));
     }
 
     Row {

@@ -2,7 +2,11 @@
 //! made beforehand, as a scene's are; a ray is made for each call, and so is the handle on the shape that
 //! `intersect` takes as `s`. The interaction that it fills is the caller's, and is made once.
 
-use crate::draw::{Beam, Belt, Matrix, Piece, Place};
+use crate::draw::{Beam, Belt, Matrix, Place};
+use crate::layout::{BOX_FLOATS, RAY_FLOATS};
+use crate::params;
+use crate::piece::{self, Piece, Transforms};
+use crate::record::{record, Record};
 use pbrt::core::geometry::bounds::Bounds3f;
 use pbrt::core::geometry::point::Point3f;
 use pbrt::core::geometry::ray::Ray;
@@ -11,23 +15,16 @@ use pbrt::core::interaction::SurfaceInteraction;
 use pbrt::core::paramset::ParamSet;
 use pbrt::core::shape::{Shape, Shapes};
 use pbrt::core::transform::{Matrix4x4, Transform};
-use pbrt::shapes::curve::{self, Curve, CurveCommon, CurveType};
-use record::record;
+use pbrt::shapes::curve;
 use std::hint::black_box;
 use std::sync::Arc;
 use std::time::{Duration, Instant};
 
-#[path = "../../oracle/src/record.rs"]
-mod record;
-
 /// A curve and a ray at it.
 pub struct Aimed {
     shape: Arc<Shapes>,
-    ray: [f32; 8],
+    ray: [f32; RAY_FLOATS],
 }
-
-/// The transforms of a place: object_to_world and world_to_object.
-type Transforms = [Arc<Transform>; 2];
 
 pub fn aimed(beams: &[Beam]) -> Vec<Aimed> {
     let mut made: Option<(&Arc<Place>, Transforms)> = None;
@@ -71,24 +68,12 @@ fn transforms(place: &Place) -> Transforms {
 }
 
 fn shape(piece: &Piece, transforms: Transforms, reverse: bool) -> Arc<Shapes> {
-    let point = |i: usize| Point3f::new(piece[3 * i], piece[3 * i + 1], piece[3 * i + 2]);
-    let points = [point(0), point(1), point(2), point(3)];
-    let common = CurveCommon::new(points, piece[12], piece[13], CurveType::Flat, None);
-    let [object_to_world, world_to_object] = transforms;
-
-    Arc::new(Shapes::from(Curve::new(
-        object_to_world,
-        world_to_object,
-        reverse,
-        Arc::new(common),
-        piece[14],
-        piece[15],
-    )))
+    Arc::new(Shapes::from(piece::to_curve(piece, transforms, reverse)))
 }
 
 impl Aimed {
     /// The record of a hit, as ours has it.
-    pub fn answer(&self) -> Option<[f32; 22]> {
+    pub fn answer(&self) -> Option<Record> {
         let mut t = 0.0;
         let mut isect = SurfaceInteraction::default();
         let hit = self.intersect(&mut t, &mut isect);
@@ -107,7 +92,7 @@ impl Aimed {
     }
 }
 
-pub fn corners(bounds: Bounds3f) -> [f32; 6] {
+pub fn corners(bounds: Bounds3f) -> [f32; BOX_FLOATS] {
     let Bounds3f { p_min, p_max } = bounds;
 
     [p_min.x, p_min.y, p_min.z, p_max.x, p_max.y, p_max.z]
@@ -115,32 +100,13 @@ pub fn corners(bounds: Bounds3f) -> [f32; 6] {
 
 /// What create_curve_shape looks up.
 pub fn params(belt: &Belt) -> ParamSet {
-    let point = |p: &[f32]| Point3f::new(p[0], p[1], p[2]);
     let basis = if belt.spline { "bspline" } else { "bezier" };
-    let mut set = ParamSet::default();
-    set.add_int("degree", vec![3]);
-    set.add_string("basis", vec![basis.to_string()]);
-    set.add_string("type", vec!["flat".to_string()]);
-    set.add_float("width0", vec![belt.widths[0]]);
-    set.add_float("width1", vec![belt.widths[1]]);
-    set.add_int("splitdepth", vec![belt.split as isize]);
-    set.add_point3f("P", belt.points.chunks(3).map(point).collect());
 
-    set
+    params::set(3, basis, belt.widths, belt.split, &belt.points)
 }
 
 pub fn laid(params: &ParamSet, identity: &Arc<Transform>) -> Vec<Arc<Shapes>> {
     curve::create_curve_shape(identity.clone(), identity.clone(), false, params)
-}
-
-/// The pieces' floats, as ours has them.
-pub fn floats(shapes: &[Arc<Shapes>]) -> Vec<f32> {
-    let one = |shape: &Arc<Shapes>| {
-        let Shapes::Curve(curve) = shape.as_ref();
-        curve::record(curve)
-    };
-
-    shapes.iter().flat_map(one).collect()
 }
 
 pub fn time_beams(beams: &[Aimed], times: u32) -> Duration {

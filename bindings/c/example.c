@@ -9,18 +9,21 @@
 
 #include "curve.h"
 
-static const float identity[16] = {
+static const float identity[CURVE_MATRIX_FLOATS] = {
     1, 0, 0, 0,
     0, 1, 0, 0,
     0, 0, 1, 0,
     0, 0, 0, 1,
 };
 
+/* Four points. */
+enum { POINTS_FLOATS = 4 * 3 };
+
 /* From x = -3 to 3 at z = 4. */
-static const float straight[] = {-3, 0, 4, -1, 0, 4, 1, 0, 4, 3, 0, 4};
+static const float straight[POINTS_FLOATS] = {-3, 0, 4, -1, 0, 4, 1, 0, 4, 3, 0, 4};
 
 /* Swings about the beam, and goes along it in the middle. */
-static const float along[] = {-1, 0, 4, 1, 0, 5, -1, 0, 6, 1, 0, 7};
+static const float along[POINTS_FLOATS] = {-1, 0, 4, 1, 0, 5, -1, 0, 6, 1, 0, 7};
 
 /* Ends the program where a number is refused that should not be. */
 static void accepted(const char *call, uint32_t number)
@@ -32,25 +35,27 @@ static void accepted(const char *call, uint32_t number)
 }
 
 /* Lays one piece of four points: cubic, Bezier, flat, not split. */
-static void lay(const float points[12], float width, float piece[CURVE_FLOATS])
+static void lay(const float points[POINTS_FLOATS], float width, float piece[CURVE_FLOATS])
 {
     uint32_t pieces;
 
     accepted("curve_create",
-             curve_create(points, 12, 3, 0, 0, width, width, 0, piece, CURVE_FLOATS, &pieces));
-    printf("pieces=%u\n", (unsigned)pieces);
+             curve_create(points, POINTS_FLOATS, 3, 0, 0, width, width, 0, piece, CURVE_FLOATS, &pieces));
+    printf("pieces=%u width=%g,%g u=%g,%g\n", (unsigned)pieces, piece[CURVE_WIDTH0], piece[CURVE_WIDTH1],
+           piece[CURVE_UMIN], piece[CURVE_UMAX]);
 }
 
 /* Shoots a beam up from x, and prints what it meets. */
 static void shoot(const float piece[CURVE_FLOATS], float x)
 {
-    const float ray[8] = {x, 0, 0, 0, 0, 1, INFINITY, 0};
+    const float ray[CURVE_RAY_FLOATS] = {x, 0, 0, 0, 0, 1, INFINITY, 0};
     float record[CURVE_RECORD_FLOATS];
     uint32_t looked;
     uint32_t number = curve_intersect(piece, CURVE_FLOATS, identity, identity, 0, ray, record, &looked);
 
     if (number == 0) {
-        printf("t=%g u=%g v=%g looked=%u\n", record[0], record[1], record[2], (unsigned)looked);
+        printf("t=%g u=%g v=%g looked=%u\n", record[CURVE_RECORD_T], record[CURVE_RECORD_U],
+               record[CURVE_RECORD_V], (unsigned)looked);
     } else if (number == 1) {
         printf("miss looked=%u\n", (unsigned)looked);
     } else {
@@ -60,7 +65,7 @@ static void shoot(const float piece[CURVE_FLOATS], float x)
 
 static void measure(const float piece[CURVE_FLOATS])
 {
-    float bounds[6];
+    float bounds[CURVE_BOX_FLOATS];
     float area;
 
     accepted("curve_object_bound", curve_object_bound(piece, CURVE_FLOATS, bounds));
@@ -84,6 +89,7 @@ int main(void)
     shoot(piece, 0);
 
     /* No belt has degree 4. */
-    printf("refused=%u\n", (unsigned)curve_create(straight, 12, 4, 0, 0, 1, 1, 0, piece, CURVE_FLOATS, &pieces));
+    printf("refused=%u\n",
+           (unsigned)curve_create(straight, POINTS_FLOATS, 4, 0, 0, 1, 1, 0, piece, CURVE_FLOATS, &pieces));
     return 0;
 }

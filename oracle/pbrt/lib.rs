@@ -277,15 +277,11 @@ pub mod shapes {
         // Supplied. What follows it is ours, and stands here to read its private fields.
         include!("shapes/curve.rs");
 
-        /// 01's piece: four points, two widths, umin, umax.
-        pub fn record(curve: &Curve) -> [Float; 16] {
-            let [a, b, c, d] = curve.common.cpobj;
-            let [width0, width1] = curve.common.width;
+        /// What 01's piece has: the points, the widths, umin and umax.
+        pub fn parts(curve: &Curve) -> ([Point3f; 4], [Float; 2], [Float; 2]) {
+            let common = &curve.common;
 
-            [
-                a.x, a.y, a.z, b.x, b.y, b.z, c.x, c.y, c.z, d.x, d.y, d.z, width0, width1,
-                curve.umin, curve.umax,
-            ]
+            (common.cpobj, common.width, [curve.umin, curve.umax])
         }
     }
 }

@@ -1,9 +1,11 @@
 //! The kind `intersect`: what the Rust answers to a beam, checked by the flat reading of 01.
 
 use crate::flat;
-use crate::kinds::curve_of;
+use crate::inputs::Matrix;
+use crate::layout::RAY_FLOATS;
 use crate::limits;
 use crate::panics::{self, Site};
+use crate::piece::{self, Piece};
 use crate::record::{record, Record};
 use crate::words::{put, text, Reader, Words};
 use pbrt::core::geometry::point::Point3f;
@@ -18,12 +20,11 @@ use std::panic::{catch_unwind, AssertUnwindSafe};
 use std::sync::Arc;
 
 pub struct Beam {
-    pub piece: [f32; 16],
-    pub object_to_world: [f32; 16],
-    pub world_to_object: [f32; 16],
+    pub piece: Piece,
+    pub object_to_world: Matrix,
+    pub world_to_object: Matrix,
     pub reverse: bool,
-    /// Origin, direction, t_max, time.
-    pub ray: [f32; 8],
+    pub ray: [f32; RAY_FLOATS],
 }
 
 /// 01's answer: with a hit and a miss goes the count.
@@ -85,7 +86,7 @@ impl Reply {
 }
 
 /// What is asked of it here does not read its inverse.
-pub fn transform(entries: &[f32; 16]) -> Transform {
+pub fn transform(entries: &Matrix) -> Transform {
     let m = Matrix4x4::from_row_slice(entries);
 
     Transform::from_matrices(&m, &Matrix4x4::default())
@@ -118,9 +119,8 @@ pub fn checked(line: &[u32]) -> (Reply, Option<flat::Reading>) {
 }
 
 fn intersect(beam: &Beam) -> Reply {
-    let mut curve = curve_of(&beam.piece, transform(&beam.object_to_world));
-    curve.world_to_object = Arc::new(transform(&beam.world_to_object));
-    curve.reverse_orientation = beam.reverse;
+    let transforms = [&beam.object_to_world, &beam.world_to_object].map(|m| Arc::new(transform(m)));
+    let curve = piece::to_curve(&beam.piece, transforms, beam.reverse);
     let shape = Arc::new(Shapes::from(curve));
     // The caller's old distance plays no part: of all distances zero might.
     let mut t_hit = 0.0;

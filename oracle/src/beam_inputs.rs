@@ -3,16 +3,18 @@
 
 use crate::beam::{transform, Beam, Reply};
 use crate::cubic;
-use crate::curve_inputs::{parameters, spoil_piece, valid_piece, Piece, ENTRY, PIECE};
+use crate::curve_inputs::{parameters, spoil_piece, valid_piece, ENTRY, PIECE};
 use crate::flat;
-use crate::inputs::{identity, matrix, permutation, placement, Matrix, Triple};
+use crate::inputs::{identity, matrix, permutation, placement, Matrix, Triple, LAST_ROW};
+use crate::layout::{
+    CURVE_FLOATS, POINTS, RAY_D, RAY_FLOATS, RAY_O, RAY_T_MAX, RECORD_T, UMAX, UMIN, WIDTH0, WIDTH1,
+};
+use crate::piece::{self, Piece};
 use crate::rng::{neighbour, pow2, Rng};
+use crate::vector::{cross, normal, scaled, Vector};
 use crate::words::Words;
 use pbrt::core::geometry::vector::Vector3f;
 use pbrt::core::transform::Matrix4x4;
-
-/// For aiming, which need not be exact.
-type Triple64 = [f64; 3];
 
 pub fn intersect(rng: &mut Rng, words: &mut Words) {
     let mut beam = match rng.below(100) {
@@ -78,22 +80,16 @@ fn belt_of(rng: &mut Rng, points: [Triple; 4]) -> Piece {
         4 => rng.moderates(),
         _ => std::array::from_fn(|_| rng.unit() * 8.0 * size),
     };
-    let mut piece = [0.0; 16];
-    for (i, p) in points.iter().enumerate() {
-        for k in 0..3 {
-            piece[3 * i + k] = middle[k] + p[k] * size;
-        }
-    }
-    piece[12] = width;
-    piece[13] = if rng.one_in(2) {
+    let points = points.map(|p| triple(|k| middle[k] + p[k] * size));
+    let other = if rng.one_in(2) {
         width
     } else {
         width * rng.pick(&[0.25, 0.5, 0.75, 1.5, 4.0])
     };
     let whole = rng.one_in(2);
-    piece[14..].copy_from_slice(&if whole { [0.0, 1.0] } else { parameters(rng) });
+    let u = if whole { [0.0, 1.0] } else { parameters(rng) };
 
-    held(piece)
+    held(piece::from_parts(&points, [width, other], u))
 }
 
 /// Four points about zero, of size about one.
@@ -165,12 +161,20 @@ fn unit(rng: &mut Rng) -> Triple {
     std::array::from_fn(|_| rng.unit())
 }
 
+fn triple(coordinate: impl Fn(usize) -> f32) -> Triple {
+    std::array::from_fn(coordinate)
+}
+
+fn points_mut(piece: &mut Piece) -> &mut [Triple] {
+    piece[POINTS].as_chunks_mut().0
+}
+
 /// Within 01's limits of a piece.
 fn held(mut piece: Piece) -> Piece {
-    for x in &mut piece[..12] {
+    for x in &mut piece[POINTS] {
         *x = x.clamp(-PIECE.coordinate, PIECE.coordinate);
     }
-    for w in &mut piece[12..14] {
+    for w in &mut piece[WIDTH0..=WIDTH1] {
         *w = w.clamp(1.0 / PIECE.width, PIECE.width);
     }
 
@@ -178,8 +182,8 @@ fn held(mut piece: Piece) -> Piece {
 }
 
 fn moved(mut piece: Piece, by: Triple) -> Piece {
-    for (i, x) in piece[..12].iter_mut().enumerate() {
-        *x += by[i % 3];
+    for p in points_mut(&mut piece) {
+        *p = triple(|k| p[k] + by[k]);
     }
 
     held(piece)
@@ -187,13 +191,13 @@ fn moved(mut piece: Piece, by: Triple) -> Piece {
 
 /// A point of the belt, with the tangent and half the width there.
 struct Place {
-    point: Triple64,
-    tangent: Triple64,
+    point: Vector,
+    tangent: Vector,
     half: f64,
 }
 
 fn place(rng: &mut Rng, piece: &Piece) -> Place {
-    let [umin, umax] = [piece[14], piece[15]].map(f64::from);
+    let [umin, umax] = [piece[UMIN], piece[UMAX]].map(f64::from);
     let u = umin
         + (umax - umin)
             * match rng.below(16) {
@@ -207,7 +211,7 @@ fn place(rng: &mut Rng, piece: &Piece) -> Place {
     Place {
         point,
         tangent,
-        half: 0.5 * (piece[12] as f64 * (1.0 - u) + piece[13] as f64 * u),
+        half: cubic::half_width(piece, u),
     }
 }
 
@@ -230,13 +234,13 @@ fn aimed(rng: &mut Rng) -> Beam {
     let piece = belt(rng);
     let aim = aim(rng, &piece);
     let mut beam = placed(rng, piece, aim.origin, aim.direction);
-    beam.ray[6] = t_max(rng, &aim);
+    beam.ray[RAY_T_MAX] = t_max(rng, &aim);
 
     beam
 }
 
 /// A ray at a piece, where both matrices are the identity.
-pub fn ray_at(rng: &mut Rng, piece: &Piece) -> [f32; 8] {
+pub fn ray_at(rng: &mut Rng, piece: &Piece) -> [f32; RAY_FLOATS] {
     let aim = aim(rng, piece);
     let [ox, oy, oz] = aim.origin.map(|x| x as f32);
     let [dx, dy, dz] = aim.direction.map(|x| x as f32);
@@ -246,8 +250,8 @@ pub fn ray_at(rng: &mut Rng, piece: &Piece) -> [f32; 8] {
 
 /// A ray at a point of the belt, in the belt's frame.
 struct Aim {
-    origin: Triple64,
-    direction: Triple64,
+    origin: Vector,
+    direction: Vector,
     /// Of the direction.
     length: f64,
     distance: f64,
@@ -297,9 +301,9 @@ fn t_max(rng: &mut Rng, aim: &Aim) -> f32 {
     }
 }
 
-fn direction(rng: &mut Rng, piece: &Piece, place: &Place) -> Triple64 {
-    let p = |i: usize| -> Triple64 { std::array::from_fn(|k| piece[3 * i + k] as f64) };
-    let to = |i: usize| -> Triple64 { std::array::from_fn(|k| p(i)[k] - p(0)[k]) };
+fn direction(rng: &mut Rng, piece: &Piece, place: &Place) -> Vector {
+    let p = piece::points(piece).map(|p| p.map(f64::from));
+    let to = |i: usize| -> Vector { std::array::from_fn(|k| p[i][k] - p[0][k]) };
     let any = unit(rng).map(f64::from);
     let wanted = match rng.below(16) {
         // Along the chord, and the tangent.
@@ -326,13 +330,13 @@ fn direction(rng: &mut Rng, piece: &Piece, place: &Place) -> Triple64 {
 
 fn axis(rng: &mut Rng) -> Triple {
     let mut v = [0.0; 3];
-    v[rng.below(3) as usize] = rng.signed(1.0);
+    *rng.one_of(&mut v) = rng.signed(1.0);
 
     v
 }
 
 /// The beam that becomes this one in the belt's frame, as near as that can be had.
-fn placed(rng: &mut Rng, piece: Piece, origin: Triple64, direction: Triple64) -> Beam {
+fn placed(rng: &mut Rng, piece: Piece, origin: Vector, direction: Vector) -> Beam {
     let mut world_to_object = world_to_object(rng);
     let mut ray = in_world(&world_to_object, origin, direction);
     if ray.is_none() && !rng.one_in(4) {
@@ -356,7 +360,7 @@ fn placed(rng: &mut Rng, piece: Piece, origin: Triple64, direction: Triple64) ->
 }
 
 /// None where the matrix is singular, or the origin beyond 01's limit.
-fn in_world(m: &Matrix, origin: Triple64, direction: Triple64) -> Option<[f32; 6]> {
+fn in_world(m: &Matrix, origin: Vector, direction: Vector) -> Option<[f32; 6]> {
     let row = |i: usize| [0, 1, 2, 3].map(|k| m[4 * i + k] as f64);
     let [x, y, z] = origin;
     let [x, y, z, w] = solved([row(0), row(1), row(2), row(3)], [x, y, z, 1.0])?;
@@ -385,11 +389,11 @@ fn world_to_object(rng: &mut Rng) -> Matrix {
         // Weights other than one: the same for all points, or not.
         19 => {
             m = placement(rng);
-            m[15] = rng.pick(&[0.5, 2.0, -1.0, 3.0, 0.1, 1.0e-6, 1.0e6]);
+            m[LAST_ROW + 3] = rng.pick(&[0.5, 2.0, -1.0, 3.0, 0.1, 1.0e-6, 1.0e6]);
         }
         20 => {
-            (0..3).for_each(|i| m[12 + i] = rng.unit() * pow2(-rng.between(0, 12)));
-            m[15] = rng.pick(&[1.0, 1.0, 2.0, -0.5]);
+            (0..3).for_each(|i| m[LAST_ROW + i] = rng.unit() * pow2(-rng.between(0, 12)));
+            m[LAST_ROW + 3] = rng.pick(&[1.0, 1.0, 2.0, -0.5]);
         }
         21 => {
             let (i, j) = (rng.below(3) as usize, rng.below(3) as usize);
@@ -486,8 +490,10 @@ fn at_origin(rng: &mut Rng) -> Beam {
         5 => unit(rng),
         // All of it on the negative side and near zero: there a zero may be negative too.
         _ => {
-            let reach = piece[..12].iter().fold(0.125, |a: f32, x| a.max(x.abs()));
-            piece[..14].iter_mut().for_each(|x| *x *= 0.125 / reach);
+            let reach = piece[POINTS].iter().fold(0.125, |a: f32, x| a.max(x.abs()));
+            piece[..=WIDTH1]
+                .iter_mut()
+                .for_each(|x| *x *= 0.125 / reach);
             piece = held(piece);
             along = along.map(|x| -x.abs());
             along.map(|x| (1.0 + x) * -0.75)
@@ -518,14 +524,14 @@ fn at_origin(rng: &mut Rng) -> Beam {
         3 => rng.zeros(),
         _ => [0.0; 4],
     };
-    for i in 0..4 {
+    for (p, depth) in points_mut(&mut piece).iter_mut().zip(depths) {
         for k in (0..3).filter(|k| along[*k] != 0.0) {
-            piece[3 * i + k] = begin[k] + depths[i] * along[k];
+            p[k] = begin[k] + depth * along[k];
         }
     }
     beam.piece = held(piece);
     if rng.one_in(8) {
-        beam.ray[6] = rng.zero();
+        beam.ray[RAY_T_MAX] = rng.zero();
     }
 
     beam
@@ -537,12 +543,7 @@ fn at_turning_point(rng: &mut Rng) -> Beam {
     let a: Triple = [round(rng), round(rng), round(rng)];
     let out: Triple = [round(rng), round(rng), round(rng)];
     let b: Triple = std::array::from_fn(|k| a[k] + out[k]);
-    let mut piece = [0.0; 16];
-    for (i, p) in [a, b, b, a].iter().enumerate() {
-        piece[3 * i..3 * i + 3].copy_from_slice(p);
-    }
     let width = pow2(rng.between(-8, 5));
-    piece[12..14].copy_from_slice(&[width; 2]);
     let ends = [
         [0.0, 1.0],
         [0.0, 0.5],
@@ -550,7 +551,7 @@ fn at_turning_point(rng: &mut Rng) -> Beam {
         [0.25, 0.5],
         [0.25, 0.75],
     ];
-    piece[14..].copy_from_slice(&rng.pick(&ends));
+    let piece = piece::from_parts(&[a, b, b, a], [width; 2], rng.pick(&ends));
     let turn: Triple = std::array::from_fn(|k| a[k] + 0.75 * out[k]);
     let outward = normal(out.map(f64::from)).map(|x| x as f32);
     let past = rng.pick(&[0.0, 0.125, 0.25, 0.375]) * width;
@@ -567,18 +568,17 @@ fn along_tangent(rng: &mut Rng) -> Beam {
     let step = rng.pick(&[0.0, 0.5, 1.0, 4.0]);
     let distance = 1.0 + rng.below(64) as f32;
     let origin: Triple = [round(rng), round(rng), round(rng)];
-    let mut piece = [0.0; 16];
-    for i in 0..4 {
+    let points = [0, 1, 2, 3].map(|i| {
         let side = [-1.0, 1.0][i % 2];
-        for k in 0..3 {
+        triple(|k| {
             let ahead = along[k] * (distance + i as f32 * step);
             let aside = swing[k] * side * (1.0 - along[k].abs());
-            piece[3 * i + k] = origin[k] + ahead + aside;
-        }
-    }
-    piece[12..14].copy_from_slice(&[pow2(rng.between(-6, 7)); 2]);
+            origin[k] + ahead + aside
+        })
+    });
+    let width = pow2(rng.between(-6, 7));
     let ends = [[0.0, 1.0], [0.0, 0.5], [0.5, 1.0], [0.25, 0.75]];
-    piece[14..].copy_from_slice(&rng.pick(&ends));
+    let piece = piece::from_parts(&points, [width; 2], rng.pick(&ends));
 
     plain(rng, held(piece), origin, along)
 }
@@ -592,18 +592,17 @@ fn tiny_belt(rng: &mut Rng) -> Beam {
     } else {
         1.0 + rng.below(64) as f32
     };
-    let mut piece = [0.0; 16];
-    for (i, p) in shape(rng).iter().enumerate() {
-        for k in 0..3 {
-            piece[3 * i + k] = if along[k] == 0.0 {
+    let points = shape(rng).map(|p| {
+        triple(|k| {
+            if along[k] == 0.0 {
                 p[k] * size
             } else {
                 along[k] * distance
-            };
-        }
-    }
-    piece[12..14].copy_from_slice(&[pow2(rng.between(-11, 4)); 2]);
-    piece[14..].copy_from_slice(&[0.0, 1.0]);
+            }
+        })
+    });
+    let width = pow2(rng.between(-11, 4));
+    let piece = piece::from_parts(&points, [width; 2], [0.0, 1.0]);
     let origin = rng.zeros();
 
     plain(rng, piece, origin, along)
@@ -626,15 +625,9 @@ fn tiny_direction(rng: &mut Rng) -> Beam {
 /// A large belt that the axis meets from zero on.
 fn facing(rng: &mut Rng, along: Triple) -> Piece {
     let size = pow2(rng.between(-2, 18));
-    let mut piece = [0.0; 16];
-    for (i, p) in shape(rng).iter().enumerate() {
-        for k in 0..3 {
-            piece[3 * i + k] = (p[k] + 4.0 * along[k]) * size;
-        }
-    }
-    piece[12..14].copy_from_slice(&[size * pow2(rng.between(-8, 0)); 2]);
-    piece[14..].copy_from_slice(&[0.0, 1.0]);
-    let piece = held(piece);
+    let points = shape(rng).map(|p| triple(|k| (p[k] + 4.0 * along[k]) * size));
+    let width = size * pow2(rng.between(-8, 0));
+    let piece = held(piece::from_parts(&points, [width; 2], [0.0, 1.0]));
     let place = place(rng, &piece);
     let by = std::array::from_fn(|k| {
         if along[k] == 0.0 {
@@ -656,15 +649,17 @@ fn no_direction(rng: &mut Rng) -> Beam {
         2 => unit(rng).map(|x| x * pow2(-rng.between(70, 80))),
         // Without a chord, and its square zero in the plane that is divided by.
         3 => {
-            (3..12).for_each(|i| beam.piece[i] = beam.piece[i % 3]);
+            let first = piece::points(&beam.piece)[0];
+            points_mut(&mut beam.piece).fill(first);
             axis(rng).map(|x| x * pow2(-rng.between(70, 80)))
         }
         _ => {
-            (0..3).for_each(|k| beam.ray[k] = rng.signed(ENTRY) * rng.unit());
+            let origin = beam.ray[RAY_O].iter_mut();
+            origin.for_each(|x| *x = rng.signed(ENTRY) * rng.unit());
             unit(rng).map(|x| x * pow2(-rng.between(2, 20)))
         }
     };
-    beam.ray[3..6].copy_from_slice(&direction);
+    beam.ray[RAY_D].copy_from_slice(&direction);
 
     beam
 }
@@ -677,7 +672,8 @@ fn weightless(rng: &mut Rng) -> Beam {
         1 => axis(rng),
         _ => rng.integers(3),
     };
-    let sum = beam.ray[0] * row[0] + beam.ray[1] * row[1] + beam.ray[2] * row[2];
+    let o = &beam.ray[RAY_O];
+    let sum = o[0] * row[0] + o[1] * row[1] + o[2] * row[2];
     let last = match rng.below(6) {
         0 => neighbour(-sum, rng.between(-1, 1)),
         _ => -sum,
@@ -687,7 +683,7 @@ fn weightless(rng: &mut Rng) -> Beam {
     } else {
         rng.zeros()
     };
-    beam.world_to_object[12..].copy_from_slice(&row);
+    beam.world_to_object[LAST_ROW..].copy_from_slice(&row);
 
     beam
 }
@@ -696,14 +692,14 @@ fn weightless(rng: &mut Rng) -> Beam {
 fn far_origin(rng: &mut Rng) -> Beam {
     let mut piece = belt(rng);
     let size = pow2(rng.between(15, 21));
-    for x in &mut piece[..12] {
+    for x in &mut piece[POINTS] {
         *x = rng.integer(4) * 0.25 * size;
     }
     let mut origin: Triple = rng.zeros();
-    origin[rng.below(3) as usize] = rng.signed(ENTRY) * rng.pick(&[1.0, 0.75, 0.5, 1.0e-3]);
+    *rng.one_of(&mut origin) = rng.signed(ENTRY) * rng.pick(&[1.0, 0.75, 0.5, 1.0e-3]);
     let direction = unit(rng);
     let mut beam = plain(rng, held(piece), origin, direction);
-    beam.world_to_object[15] = if rng.one_in(4) {
+    beam.world_to_object[LAST_ROW + 3] = if rng.one_in(4) {
         rng.subnormal()
     } else {
         pow2(-rng.between(100, 109)) * rng.signed(1.0)
@@ -715,49 +711,46 @@ fn far_origin(rng: &mut Rng) -> Beam {
 /// `look_at` gives the identity: the square of the up vector overflows, or that vector lies along all that
 /// the origin leaves of the direction.
 fn no_frame(rng: &mut Rng) -> Beam {
-    let mut beam = plain(rng, [0.0; 16], [0.0; 3], [0.0; 3]);
-    if rng.one_in(2) {
+    let mut beam = plain(rng, [0.0; CURVE_FLOATS], [0.0; 3], [0.0; 3]);
+    let points = if rng.one_in(2) {
         // The longest direction there is, and nearly the longest chord across it.
         let signs: Triple = std::array::from_fn(|_| rng.signed(1.0));
         let chord = [-signs[1], signs[0], 0.0];
         for i in 0..3 {
             let sign = rng.signed(1.0);
             (0..3).for_each(|k| beam.world_to_object[4 * i + k] = sign * signs[k] * ENTRY);
-            beam.ray[3 + i] = signs[i] * ENTRY;
+            beam.ray[RAY_D][i] = signs[i] * ENTRY;
         }
         let ahead = rng.pick(&[0.0, 1.0, 1000.0, PIECE.coordinate]);
         let bend = unit(rng).map(|x| x * pow2(rng.between(0, 18)));
-        for i in 0..4 {
-            let along = [-1.0, -0.3, 0.3, 1.0][i] * PIECE.coordinate;
-            let bent = [0.0, 1.0, -1.0, 0.0][i];
-            let p = std::array::from_fn::<f32, 3, _>(|k| chord[k] * along + bend[k] * bent);
-            beam.piece[3 * i..3 * i + 3].copy_from_slice(&[p[0], p[1], p[2] + ahead]);
-        }
+        [(-1.0, 0.0), (-0.3, 1.0), (0.3, -1.0), (1.0, 0.0)].map(|(along, bent)| {
+            let [x, y, z] = triple(|k| chord[k] * (along * PIECE.coordinate) + bend[k] * bent);
+            [x, y, z + ahead]
+        })
     } else {
-        let belt = belt(rng);
-        beam.piece[..12].copy_from_slice(&belt[..12]);
+        let mut points = piece::points(&belt(rng));
         let (lost, kept) = rng.pick(&[(0, 1), (0, 2), (1, 2), (1, 0), (2, 0), (2, 1)]);
-        (0..4).for_each(|i| beam.piece[3 * i + kept] = belt[kept]);
-        beam.ray[lost] = ENTRY;
-        beam.ray[3 + lost] = pow2(-5);
-        beam.ray[3 + kept] = pow2(-rng.between(80, 85));
+        let level = points[0][kept];
+        points.iter_mut().for_each(|p| p[kept] = level);
+        beam.ray[RAY_O][lost] = ENTRY;
+        beam.ray[RAY_D][lost] = pow2(-5);
+        beam.ray[RAY_D][kept] = pow2(-rng.between(80, 85));
         (0..3).for_each(|i| beam.world_to_object[5 * i] = pow2(10));
-    }
-    beam.piece[12..].copy_from_slice(&[PIECE.width, PIECE.width, 0.0, 1.0]);
 
-    Beam {
-        piece: held(beam.piece),
-        ..beam
-    }
+        points
+    };
+    beam.piece = held(piece::from_parts(&points, [PIECE.width; 2], [0.0, 1.0]));
+
+    beam
 }
 
 fn any(rng: &mut Rng) -> Beam {
     let piece = valid_piece(rng);
     let world_to_object = matrix(rng);
     let world_to_object = within(rng, world_to_object);
-    let ray: [f32; 8] = rng.floats();
+    let ray: [f32; RAY_FLOATS] = rng.floats();
     let mut ray = ray.map(|x| limited(rng, x));
-    ray[6] = rng.pick(&[f32::INFINITY, ray[6].abs()]);
+    ray[RAY_T_MAX] = rng.pick(&[f32::INFINITY, ray[RAY_T_MAX].abs()]);
 
     Beam {
         piece,
@@ -771,9 +764,9 @@ fn any(rng: &mut Rng) -> Beam {
 /// t_max where the hit is, or next to it.
 pub fn end_at_hit(rng: &mut Rng, beam: &mut Beam) {
     if let Reply::Hit(_, record) = flat::read(beam).reply {
-        let t = record[0];
+        let t = record[RECORD_T];
         if t > 0.0 && t.is_finite() {
-            beam.ray[6] = neighbour(t, rng.between(-1, 1));
+            beam.ray[RAY_T_MAX] = neighbour(t, rng.between(-1, 1));
         }
     }
 }
@@ -789,39 +782,17 @@ fn spoil(rng: &mut Rng, beam: &mut Beam) {
     };
     match rng.below(8) {
         0 | 1 => spoil_piece(rng, &mut beam.piece),
-        2 => beam.object_to_world[rng.below(16) as usize] = number,
-        3 => beam.world_to_object[rng.below(16) as usize] = number,
+        2 => *rng.one_of(&mut beam.object_to_world) = number,
+        3 => *rng.one_of(&mut beam.world_to_object) = number,
         4 => {
             let wrong = [-pow2(-149), -1.0, f32::NEG_INFINITY, f32::NAN, -0.0];
-            beam.ray[6] = rng.pick(&wrong);
+            beam.ray[RAY_T_MAX] = rng.pick(&wrong);
         }
-        _ => beam.ray[rng.below(8) as usize] = number,
+        _ => *rng.one_of(&mut beam.ray) = number,
     }
 }
 
 // Aiming.
-
-fn cross(a: Triple64, b: Triple64) -> Triple64 {
-    [
-        a[1] * b[2] - a[2] * b[1],
-        a[2] * b[0] - a[0] * b[2],
-        a[0] * b[1] - a[1] * b[0],
-    ]
-}
-
-fn scaled(v: Triple64, by: f64) -> Triple64 {
-    v.map(|x| x * by)
-}
-
-/// Zero stays zero.
-fn normal(v: Triple64) -> Triple64 {
-    let length = v.iter().map(|x| x * x).sum::<f64>().sqrt();
-    if length > 0.0 {
-        scaled(v, 1.0 / length)
-    } else {
-        [0.0; 3]
-    }
-}
 
 /// The x with a x = b, unless a is singular.
 fn solved<const N: usize>(mut a: [[f64; N]; N], mut b: [f64; N]) -> Option<[f64; N]> {

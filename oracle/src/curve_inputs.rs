@@ -1,14 +1,14 @@
 //! The inputs of the kinds that take or lay pieces: most within 01's limits, many at one, some beyond.
 
-use crate::inputs::{aimed, matrix, Triple};
+use crate::inputs::{aimed, matrix, Triple, LAST_ROW};
 use crate::kinds::curve_of;
+use crate::layout::{CURVE_FLOATS, POINTS, UMAX, UMIN, WIDTH0, WIDTH1};
 use crate::limits::ShapeParams;
+use crate::piece::{self, Piece};
 use crate::rng::{neighbour, pow2, Rng};
 use crate::words::{put, Words};
 use pbrt::core::shape::Shape;
 use pbrt::core::transform::Transform;
-
-pub type Piece = [f32; 16];
 
 /// How far coordinates and widths go.
 pub struct Reach {
@@ -59,16 +59,16 @@ pub fn world_bound(rng: &mut Rng, words: &mut Words) {
         m = aimed(rng, m, corner);
     }
     match rng.below(16) {
-        0 => m[rng.below(16) as usize] = rng.signed(ENTRY),
-        1 => m[rng.below(16) as usize] = neighbour(rng.signed(ENTRY), 1),
-        2 => m[rng.below(16) as usize] = rng.special(),
-        3 => m[rng.below(16) as usize] = rng.any(),
+        0 => *rng.one_of(&mut m) = rng.signed(ENTRY),
+        1 => *rng.one_of(&mut m) = neighbour(rng.signed(ENTRY), 1),
+        2 => *rng.one_of(&mut m) = rng.special(),
+        3 => *rng.one_of(&mut m) = rng.any(),
         4 => m = std::array::from_fn(|_| rng.signed(ENTRY)),
         // A weight whose reciprocal overflows, now and then with nothing to multiply it with.
         5 => {
-            m[12..].copy_from_slice(&[0.0, 0.0, 0.0, rng.subnormal()]);
+            m[LAST_ROW..].copy_from_slice(&[0.0, 0.0, 0.0, rng.subnormal()]);
             let row = 4 * rng.below(4) as usize;
-            if row < 12 {
+            if row < LAST_ROW {
                 m[row..row + 4].copy_from_slice(&rng.zeros::<4>());
             }
         }
@@ -79,12 +79,10 @@ pub fn world_bound(rng: &mut Rng, words: &mut Words) {
 }
 
 pub fn valid_piece(rng: &mut Rng) -> Piece {
-    let mut piece = [0.0; 16];
-    piece[..12].copy_from_slice(&points(rng, 4, &PIECE));
-    piece[12..14].copy_from_slice(&widths(rng, &PIECE));
-    piece[14..].copy_from_slice(&parameters(rng));
+    let floats = points(rng, 4, &PIECE);
+    let (points, _) = floats.as_chunks();
 
-    piece
+    piece::from_parts(points, widths(rng, &PIECE), parameters(rng))
 }
 
 fn spoilt_piece(rng: &mut Rng) -> Piece {
@@ -97,10 +95,10 @@ fn spoilt_piece(rng: &mut Rng) -> Piece {
 /// One float, or umin and umax, at a limit, beyond it, or anything.
 pub fn spoil_piece(rng: &mut Rng, piece: &mut Piece) {
     match rng.below(4) {
-        0 => piece[rng.below(12) as usize] = edge_coordinate(rng, &PIECE),
-        1 => piece[12 + rng.below(2) as usize] = edge_width(rng, &PIECE),
-        2 => piece[14..].copy_from_slice(&edge_parameters(rng)),
-        _ => piece[rng.below(16) as usize] = rng.mixed(),
+        0 => *rng.one_of(&mut piece[POINTS]) = edge_coordinate(rng, &PIECE),
+        1 => *rng.one_of(&mut piece[WIDTH0..=WIDTH1]) = edge_width(rng, &PIECE),
+        2 => piece[UMIN..=UMAX].copy_from_slice(&edge_parameters(rng)),
+        _ => *rng.one_of(piece) = rng.mixed(),
     }
 }
 
@@ -274,16 +272,17 @@ pub fn create_curve_shape(rng: &mut Rng, words: &mut Words) {
             _ => short = true,
         }
     }
-    let needed = 16 * pieces_of(degree, basis, &params);
+    const FLOATS: u32 = CURVE_FLOATS as u32;
+    let needed = FLOATS * pieces_of(degree, basis, &params);
     params.list_len = if short {
         rng.pick(&[
             0,
             needed / 2,
-            needed.saturating_sub(16),
+            needed.saturating_sub(FLOATS),
             needed.saturating_sub(1),
         ])
     } else {
-        needed + rng.pick(&[0, 0, 0, 0, 1, 15, 16, 100])
+        needed + rng.pick(&[0, 0, 0, 0, 1, FLOATS - 1, FLOATS, 100])
     };
     words.extend([params.degree, params.basis, params.ty]);
     put(words, &params.widths);
@@ -362,7 +361,7 @@ fn miscount(rng: &mut Rng, floats: &mut Vec<f32>) {
 pub fn spoil(rng: &mut Rng, params: &mut ShapeParams) {
     let len = params.floats.len();
     if len == 0 || rng.one_in(2) {
-        params.widths[rng.below(2) as usize] = edge_width(rng, &LAID);
+        *rng.one_of(&mut params.widths) = edge_width(rng, &LAID);
     } else {
         let at = match rng.below(4) {
             0 => 0,

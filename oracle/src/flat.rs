@@ -2,6 +2,11 @@
 //! pieces by level and number, and not as the Rust recurses. Only the frame's tools are the Rust's.
 
 use crate::beam::{transform, Beam, Reply};
+use crate::layout::{
+    RECORD_DPDU, RECORD_DPDV, RECORD_ERROR, RECORD_FLOATS, RECORD_N, RECORD_P, RECORD_T,
+    RECORD_TIME, RECORD_U, RECORD_V, RECORD_WO, UMAX, UMIN, WIDTH0, WIDTH1,
+};
+use crate::piece;
 use crate::record::Record;
 use pbrt::core::geometry::point::Point3f;
 use pbrt::core::geometry::ray::Ray;
@@ -53,7 +58,7 @@ pub fn read(beam: &Beam) -> Reading {
         Ok(framed) => framed,
         Err(refusal) => return not_entered(Reply::Refused(refusal)),
     };
-    let u = [beam.piece[14], beam.piece[15]];
+    let u = [beam.piece[UMIN], beam.piece[UMAX]];
     let half = half_width(beam, u);
     if thrown_out(&framed, &framed.points, half, half) {
         return not_entered(Reply::Miss(0));
@@ -140,8 +145,8 @@ fn not_zero(x: f32, refusal: u32) -> Result<(), u32> {
 }
 
 fn blossoms(beam: &Beam) -> [Point3f; 4] {
-    let points = control_points(beam);
-    let [umin, umax] = [beam.piece[14], beam.piece[15]];
+    let points = piece::points(&beam.piece);
+    let [umin, umax] = [beam.piece[UMIN], beam.piece[UMAX]];
     let ends = [
         [umin, umin, umin],
         [umin, umin, umax],
@@ -163,10 +168,6 @@ fn halfway(points: &Points, u0: f32, u1: f32) -> [Triple; 2] {
     [mixed(u1, a, b), mixed(u1, b, c)]
 }
 
-fn control_points(beam: &Beam) -> Points {
-    std::array::from_fn(|i| std::array::from_fn(|k| beam.piece[3 * i + k]))
-}
-
 fn triple(p: Point3f) -> Triple {
     [p.x, p.y, p.z]
 }
@@ -180,7 +181,7 @@ fn mixed(t: f32, a: Triple, b: Triple) -> Triple {
 }
 
 fn width(beam: &Beam, u: f32) -> f32 {
-    lerp(u, beam.piece[12], beam.piece[13])
+    lerp(u, beam.piece[WIDTH0], beam.piece[WIDTH1])
 }
 
 /// Half the larger width at the ends of a piece.
@@ -206,7 +207,7 @@ fn depth(beam: &Beam, points: &Points) -> u32 {
             l0 = l0.max(difference.abs());
         }
     }
-    let eps = beam.piece[12].max(beam.piece[13]) * 0.05;
+    let eps = beam.piece[WIDTH0].max(beam.piece[WIDTH1]) * 0.05;
     let v = 1.41421356237 * 6.0 * l0 / (8.0 * eps);
     if v.is_nan() || v.is_infinite() {
         return 10;
@@ -301,7 +302,7 @@ fn leaf(beam: &Beam, framed: &Framed, sliver: &Open) -> Option<Passing> {
 
 /// The record, or 14, 15 or 16, tried in that order.
 fn record(beam: &Beam, framed: &Framed, t: f32, u: f32, v: f32, width: f32) -> Result<Record, u32> {
-    let (_, dpdu) = evaluated(&control_points(beam), u);
+    let (_, dpdu) = evaluated(&piece::points(&beam.piece), u);
     if dpdu == [0.0; 3] {
         return Err(14);
     }
@@ -316,18 +317,20 @@ fn record(beam: &Beam, framed: &Framed, t: f32, u: f32, v: f32, width: f32) -> R
     let wo = unit([-d.x, -d.y, -d.z], 16)?;
     let p = [o.x + d.x * t, o.y + d.y * t, o.z + d.z * t];
     let error = [2.0 * width; 3];
-    let mut record = [0.0; 22];
-    record[..3].copy_from_slice(&[t, u, v]);
-    record[9] = *time;
-    for (at, field) in [
-        (3, p),
-        (6, error),
-        (10, wo),
-        (13, n),
-        (16, dpdu),
-        (19, dpdv),
+    let mut record = [0.0; RECORD_FLOATS];
+    record[RECORD_T] = t;
+    record[RECORD_U] = u;
+    record[RECORD_V] = v;
+    record[RECORD_TIME] = *time;
+    for (place, field) in [
+        (RECORD_P, p),
+        (RECORD_ERROR, error),
+        (RECORD_WO, wo),
+        (RECORD_N, n),
+        (RECORD_DPDU, dpdu),
+        (RECORD_DPDV, dpdv),
     ] {
-        record[at..at + 3].copy_from_slice(&field);
+        record[place].copy_from_slice(&field);
     }
 
     Ok(record)

@@ -1,10 +1,14 @@
 //! The inputs of each kind: random numbers of every sort, and cases aimed at its branches.
 
+use crate::layout::MATRIX_FLOATS;
 use crate::rng::{neighbour, neighbour64, pow2, Rng};
 use crate::words::{put, put_f64, Words};
 
 pub type Triple = [f32; 3];
-pub type Matrix = [f32; 16];
+pub type Matrix = [f32; MATRIX_FLOATS];
+
+/// Where the last row of a matrix begins.
+pub const LAST_ROW: usize = 12;
 
 pub fn sqrt(rng: &mut Rng, words: &mut Words) {
     let x = match rng.below(12) {
@@ -265,7 +269,7 @@ pub fn swaps_handedness(rng: &mut Rng, words: &mut Words) {
         0 => m.copy_within(0..4, 4),
         1 => (0..3).for_each(|k| m[8 + k] = m[k] + m[4 + k]),
         2 => m = rng.scaled(),
-        3 => m[rng.below(16) as usize] = rng.special(),
+        3 => *rng.one_of(&mut m) = rng.special(),
         _ => {}
     }
     put(words, &m);
@@ -295,7 +299,7 @@ fn parallel(rng: &mut Rng, v: Triple) -> Triple {
 
 fn one_axis(rng: &mut Rng) -> Triple {
     let mut v: Triple = rng.zeros();
-    v[rng.below(3) as usize] = if rng.one_in(2) {
+    *rng.one_of(&mut v) = if rng.one_in(2) {
         rng.signed(1.0)
     } else {
         rng.mixed()
@@ -321,7 +325,7 @@ pub fn permutation(rng: &mut Rng) -> Matrix {
     for i in 1..4 {
         order.swap(i, rng.below(i as u32 + 1) as usize);
     }
-    let mut m = [0.0; 16];
+    let mut m = [0.0; MATRIX_FLOATS];
     for i in 0..4 {
         m[4 * i + order[i]] = rng.signed(1.0);
     }
@@ -379,15 +383,15 @@ pub fn matrix(rng: &mut Rng) -> Matrix {
         // A move, a scale, a few entries of the identity changed.
         1 => (0..3).for_each(|i| m[4 * i + 3] = rng.limit()),
         2 => (0..3).for_each(|i| m[5 * i] = rng.moderate()),
-        3 => (0..3).for_each(|_| m[rng.below(16) as usize] = rng.mixed()),
+        3 => (0..3).for_each(|_| *rng.one_of(&mut m) = rng.mixed()),
         4 => m = permutation(rng),
         5 => m = rng.integers(1),
         // Affine.
-        6 | 7 => m[..12].copy_from_slice(&rng.floats::<12>()),
-        8 => m[..12].copy_from_slice(&rng.moderates::<12>()),
+        6 | 7 => m[..LAST_ROW].copy_from_slice(&rng.floats::<LAST_ROW>()),
+        8 => m[..LAST_ROW].copy_from_slice(&rng.moderates::<LAST_ROW>()),
         9 => {
             m = placement(rng);
-            m[rng.below(16) as usize] = rng.mixed();
+            *rng.one_of(&mut m) = rng.mixed();
         }
         10 | 11 => m = rng.floats(),
         12 => m = rng.moderates(),
@@ -416,12 +420,12 @@ pub fn aimed(rng: &mut Rng, mut m: Matrix, p: Triple) -> Matrix {
         4 => rng.moderates(),
         // A weight that is a plain number.
         5 => {
-            m[12..].copy_from_slice(&[0.0, 0.0, 0.0, rng.mixed()]);
+            m[LAST_ROW..].copy_from_slice(&[0.0, 0.0, 0.0, rng.mixed()]);
             return m;
         }
         // A small weight, by underflow or not.
         6 => {
-            m[12..].copy_from_slice(&rng.scaled::<4>());
+            m[LAST_ROW..].copy_from_slice(&rng.scaled::<4>());
             return m;
         }
         _ => return m,
@@ -433,7 +437,7 @@ pub fn aimed(rng: &mut Rng, mut m: Matrix, p: Triple) -> Matrix {
         2 => rng.zero(),
         _ => -sum,
     };
-    m[12..].copy_from_slice(&[row[0], row[1], row[2], last]);
+    m[LAST_ROW..].copy_from_slice(&[row[0], row[1], row[2], last]);
 
     m
 }

@@ -1,16 +1,16 @@
 //! What can be asked: for each kind its layout, its inputs and the call of the supplied Rust.
 
 use crate::limits::{self, ShapeParams};
+use crate::params;
+use crate::piece::{self, Piece};
 use crate::rng::Rng;
 use crate::words::{put, put_bounds, put_matrix, put_point, put_vector, Reader, Words};
 use crate::{beam, beam_inputs, curve_inputs, inputs};
-use pbrt::core::geometry::point::Point3f;
 use pbrt::core::geometry::ray::Ray;
 use pbrt::core::geometry::vector::{vec3_coordinate_system, Vector3f};
-use pbrt::core::paramset::ParamSet;
 use pbrt::core::shape::{Shape, Shapes};
 use pbrt::core::transform::{Matrix4x4, Transform};
-use pbrt::shapes::curve::{self, Curve, CurveCommon, CurveType};
+use pbrt::shapes::curve::{self, Curve};
 use std::panic::catch_unwind;
 use std::sync::Arc;
 
@@ -82,21 +82,16 @@ pub const KINDS: &[Kind] = &[
         inputs::swaps_handedness,
         swaps_handedness,
     ),
-    kind(
-        "area",
-        "piece(16) -> status [area]",
-        curve_inputs::piece,
-        area,
-    ),
+    kind("area", "piece -> status [area]", curve_inputs::piece, area),
     kind(
         "object_bound",
-        "piece(16) -> status [p_min(3) p_max(3)]",
+        "piece -> status [p_min(3) p_max(3)]",
         curve_inputs::piece,
         object_bound,
     ),
     kind(
         "world_bound",
-        "piece(16) object_to_world(16) -> status [p_min(3) p_max(3)]",
+        "piece object_to_world(16) -> status [p_min(3) p_max(3)]",
         curve_inputs::world_bound,
         world_bound,
     ),
@@ -109,7 +104,7 @@ pub const KINDS: &[Kind] = &[
     ),
     kind(
         "intersect",
-        "piece(16) object_to_world(16) world_to_object(16) reverse o(3) d(3) t_max time -> \
+        "piece object_to_world(16) world_to_object(16) reverse o(3) d(3) t_max time -> \
          status [looked [t u v p(3) error(3) time wo(3) n(3) dpdu(3) dpdv(3)]]",
         beam_inputs::intersect,
         intersect,
@@ -264,48 +259,31 @@ fn put_reply<T>(answer: &mut Words, reply: Result<T, u32>, put: impl Fn(&mut Wor
 }
 
 /// The curve that a piece stands for, world_to_object the identity.
-pub fn curve_of(piece: &[f32; 16], object_to_world: Transform) -> Curve {
-    let point = |i: usize| Point3f::new(piece[3 * i], piece[3 * i + 1], piece[3 * i + 2]);
-    let points = [point(0), point(1), point(2), point(3)];
-    let common = CurveCommon::new(points, piece[12], piece[13], CurveType::Flat, None);
-    let world_to_object = Arc::new(Transform::default());
+pub fn curve_of(piece: &Piece, object_to_world: Transform) -> Curve {
+    let transforms = [object_to_world, Transform::default()].map(Arc::new);
 
-    Curve::new(
-        Arc::new(object_to_world),
-        world_to_object,
-        false,
-        Arc::new(common),
-        piece[14],
-        piece[15],
-    )
+    piece::to_curve(piece, transforms, false)
 }
 
 /// The pieces that the Rust lays, where 01's limits let it.
-pub fn laid(params: &ShapeParams) -> Result<Vec<[f32; 16]>, u32> {
+pub fn laid(params: &ShapeParams) -> Result<Vec<Piece>, u32> {
     let pieces = limits::create_curve_shape(params)?;
     let curves = curves_of(params);
     assert_eq!(pieces, curves.len() as i64);
-    let record = |shape: &Arc<Shapes>| {
-        let Shapes::Curve(curve) = shape.as_ref();
-        curve::record(curve)
-    };
 
-    Ok(curves.iter().map(record).collect())
+    Ok(piece::from_shapes(&curves))
 }
 
-/// The Rust's call, given each parameter that it looks up for flat curves.
+/// The Rust's call.
 fn curves_of(params: &ShapeParams) -> Vec<Arc<Shapes>> {
-    let point = |p: &[f32]| Point3f::new(p[0], p[1], p[2]);
-    let points = params.floats.chunks(3).map(point).collect();
     let basis = ["bezier", "bspline"][params.basis as usize];
-    let mut set = ParamSet::default();
-    set.add_int("degree", vec![params.degree as isize]);
-    set.add_string("basis", vec![basis.to_string()]);
-    set.add_string("type", vec!["flat".to_string()]);
-    set.add_float("width0", vec![params.widths[0]]);
-    set.add_float("width1", vec![params.widths[1]]);
-    set.add_int("splitdepth", vec![params.split as isize]);
-    set.add_point3f("P", points);
+    let set = params::set(
+        params.degree,
+        basis,
+        params.widths,
+        params.split,
+        &params.floats,
+    );
     let transform = Arc::new(Transform::default());
 
     curve::create_curve_shape(transform.clone(), transform, false, &set)

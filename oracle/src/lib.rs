@@ -7,11 +7,16 @@ pub mod curve_inputs;
 pub mod flat;
 pub mod inputs;
 pub mod kinds;
+#[path = "../../bindings/rust/src/layout.rs"]
+pub mod layout;
 pub mod limits;
 pub mod panics;
+pub mod params;
+pub mod piece;
 pub mod record;
 pub mod rng;
 pub mod shares;
 pub mod sheet;
 pub mod sheet_inputs;
+pub mod vector;
 pub mod words;

@@ -1,6 +1,8 @@
 //! 01's refusals 1 to 11, which the supplied Rust has not, or not in this order: a second reading of the
 //! paper, independent of the library's. Each function tells the first refusal that holds.
 
+use crate::layout::{CURVE_FLOATS, POINTS, RAY_FLOATS, RAY_T_MAX, UMAX, UMIN, WIDTH0, WIDTH1};
+use crate::piece::Piece;
 use pbrt::core::transform::Matrix4x4;
 
 /// What laying takes, of the list only its length.
@@ -48,7 +50,7 @@ pub fn create_curve_shape(params: &ShapeParams) -> Result<i64, u32> {
     if !coordinates || !width(params.widths[0]) || !width(params.widths[1]) {
         return Err(7);
     }
-    if (params.list_len as i64) < 16 * pieces {
+    if (params.list_len as i64) < CURVE_FLOATS as i64 * pieces {
         return Err(8);
     }
 
@@ -56,12 +58,12 @@ pub fn create_curve_shape(params: &ShapeParams) -> Result<i64, u32> {
 }
 
 /// Refusal 9.
-pub fn piece(floats: &[f32; 16]) -> Result<(), u32> {
-    let finite = floats.iter().all(|x| x.is_finite());
-    let coordinates = floats[..12].iter().all(|x| x.abs() <= 2_097_152.0);
+pub fn piece(piece: &Piece) -> Result<(), u32> {
+    let finite = piece.iter().all(|x| x.is_finite());
+    let coordinates = piece[POINTS].iter().all(|x| x.abs() <= 2_097_152.0);
     let width = |w: f32| 1.0 / 2048.0 <= w && w <= 2048.0;
-    let widths = width(floats[12]) && width(floats[13]);
-    let (umin, umax) = (floats[14], floats[15]);
+    let widths = width(piece[WIDTH0]) && width(piece[WIDTH1]);
+    let (umin, umax) = (piece[UMIN], piece[UMAX]);
     if finite && coordinates && widths && 0.0 <= umin && umin < umax && umax <= 1.0 {
         Ok(())
     } else {
@@ -79,10 +81,10 @@ pub fn matrix(matrix: &Matrix4x4) -> Result<(), u32> {
     }
 }
 
-/// Refusal 11, of origin, direction, t_max and time.
-pub fn ray(ray: &[f32; 8]) -> Result<(), u32> {
-    let t_max = ray[6];
-    let mut others = ray[..6].iter().chain(&ray[7..]);
+/// Refusal 11.
+pub fn ray(ray: &[f32; RAY_FLOATS]) -> Result<(), u32> {
+    let t_max = ray[RAY_T_MAX];
+    let mut others = ray[..RAY_T_MAX].iter().chain(&ray[RAY_T_MAX + 1..]);
     if others.all(|x| x.is_finite() && x.abs() <= 1_048_576.0) && t_max >= 0.0 {
         Ok(())
     } else {

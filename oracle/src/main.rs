@@ -1,6 +1,7 @@
 //! Answers of the supplied Rust on seeded inputs, one line each. See README.md.
 
 use oracle::kinds::{self, Kind, KINDS};
+use oracle::layout::CURVE_FLOATS;
 use oracle::rng::Rng;
 use oracle::words::{append, Reader, Words};
 use oracle::{panics, shares, sheet, sheet_inputs};
@@ -32,7 +33,7 @@ fn number(text: &str) -> u64 {
 }
 
 fn usage() -> String {
-    let mut text = String::from(
+    let mut text = format!(
         "oracle KIND SEED N          N lines of that kind: the inputs, then the answer of the Rust\n\
          oracle kinds                the names of the kinds\n\
          oracle shares SEED N        what the inputs of `intersect` reach, as shares of N lines\n\
@@ -42,7 +43,8 @@ fn usage() -> String {
          \n\
          Words of eight hexadecimal digits; a NaN is 7fc00000. A line without an answer is one on which\n\
          the Rust panics because a length or a weight is zero. A status is 0, or 1 for a miss, or the\n\
-         number of 01's refusal, behind which nothing follows.\n\n",
+         number of 01's refusal, behind which nothing follows. A piece is {CURVE_FLOATS} words, in the order of\n\
+         bindings/rust/src/layout.rs.\n\n"
     );
     for kind in KINDS {
         text += &format!("{:20} {}\n", kind.name, kind.layout);

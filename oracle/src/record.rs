@@ -1,9 +1,9 @@
 //! The Rust's record of a hit as floats. `bench/` uses this file too.
 
+use crate::layout::RECORD_FLOATS;
 use pbrt::core::interaction::SurfaceInteraction;
 
-/// t, u, v, p, error, time, wo, n, dpdu, dpdv.
-pub type Record = [f32; 22];
+pub type Record = [f32; RECORD_FLOATS];
 
 pub fn record(t: f32, isect: &SurfaceInteraction) -> Record {
     let SurfaceInteraction {

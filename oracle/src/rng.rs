@@ -46,6 +46,11 @@ impl Rng {
         list[self.below(list.len() as u32) as usize]
     }
 
+    /// One of them, to be replaced.
+    pub fn one_of<'a>(&mut self, list: &'a mut [f32]) -> &'a mut f32 {
+        &mut list[self.below(list.len() as u32) as usize]
+    }
+
     pub fn signed(&mut self, x: f32) -> f32 {
         if self.one_in(2) {
             -x
@@ -192,7 +197,7 @@ impl Rng {
     /// Moderate numbers, one of them replaced.
     fn with_one<const N: usize>(&mut self, one: fn(&mut Rng) -> f32) -> [f32; N] {
         let mut floats = self.moderates();
-        floats[self.below(N as u32) as usize] = one(self);
+        *self.one_of(&mut floats) = one(self);
 
         floats
     }

@@ -2,6 +2,7 @@
 
 use crate::beam::{self, Reply};
 use crate::beam_inputs;
+use crate::layout::RECORD_T;
 use crate::rng::Rng;
 use crate::words::Words;
 use crate::{sheet, sheet_inputs};
@@ -97,8 +98,10 @@ fn reached(line: &[u32]) -> Vec<String> {
         Reply::Refused(number) => format!("status {number:2}"),
     }];
     match reply {
-        Reply::Hit(_, record) if record[0] == 0.0 => names.push("hit at distance zero".to_string()),
-        Reply::Hit(_, record) if record[0].is_nan() => {
+        Reply::Hit(_, record) if record[RECORD_T] == 0.0 => {
+            names.push("hit at distance zero".to_string())
+        }
+        Reply::Hit(_, record) if record[RECORD_T].is_nan() => {
             names.push("hit at distance NaN".to_string())
         }
         Reply::Miss(0) => names.push("miss, the whole thrown out".to_string()),

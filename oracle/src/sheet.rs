@@ -4,14 +4,17 @@
 use crate::beam::{self, Beam, Reply};
 use crate::inputs::identity;
 use crate::kinds;
+use crate::layout::{
+    CURVE_FLOATS, MOST_BEAMS, MOST_CURVES, RAY_FLOATS, RECORD_T, RECORD_U, RECORD_V,
+};
 use crate::limits::ShapeParams;
+use crate::piece::Piece;
 use crate::words::{put, text, Words};
 
 pub struct Sheet {
     pub belt: ShapeParams,
     pub reverse: bool,
-    /// Origin, direction, t_max, time.
-    pub beams: Vec<[f32; 8]>,
+    pub beams: Vec<[f32; RAY_FLOATS]>,
 }
 
 /// 01's number, and the line, which is 0 with every number but 17.
@@ -21,10 +24,9 @@ pub struct Refused {
 }
 
 pub const MOST_BYTES: usize = 65_536;
-pub const MOST_BEAMS: usize = 64;
 
 /// The list that `beltbeam` fills holds as many pieces as 01 allows.
-pub const LIST_LEN: u32 = 16 * 1024;
+pub const LIST_LEN: u32 = (CURVE_FLOATS * MOST_CURVES) as u32;
 
 pub const BASES: [&str; 2] = ["bezier", "bspline"];
 pub const TYPES: [&str; 3] = ["flat", "ribbon", "cylinder"];
@@ -48,14 +50,14 @@ fn answered(sheet: &[u8]) -> Result<String, Refused> {
 }
 
 /// The sheet, and the pieces that the Rust lays of it into a list of that length.
-pub fn laid(sheet: &[u8], list_len: u32) -> Result<(Sheet, Vec<[f32; 16]>), Refused> {
+pub fn laid(sheet: &[u8], list_len: u32) -> Result<(Sheet, Vec<Piece>), Refused> {
     let sheet = read(sheet, list_len)?;
     let pieces = kinds::laid(&sheet.belt).map_err(|number| Refused { number, line: 0 })?;
 
     Ok((sheet, pieces))
 }
 
-fn answer(piece: &[f32; 16], reverse: bool, ray: &[f32; 8]) -> String {
+fn answer(piece: &Piece, reverse: bool, ray: &[f32; RAY_FLOATS]) -> String {
     let mut line = Words::new();
     let beam = Beam {
         piece: *piece,
@@ -67,7 +69,7 @@ fn answer(piece: &[f32; 16], reverse: bool, ray: &[f32; 8]) -> String {
     beam.put(&mut line);
     match beam::checked(&line).0 {
         Reply::Hit(looked, record) => {
-            let [t, u, v] = [record[0], record[1], record[2]].map(float);
+            let [t, u, v] = [RECORD_T, RECORD_U, RECORD_V].map(|place| float(record[place]));
             format!("looked={looked} hit=1 t={t} u={u} v={v}")
         }
         Reply::Miss(looked) => format!("looked={looked} hit=0"),

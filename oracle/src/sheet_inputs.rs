@@ -3,12 +3,14 @@
 
 use crate::beam::Beam;
 use crate::beam_inputs::{end_at_hit, ray_at, shape, without_matrices};
-use crate::curve_inputs::{self, points_of, widths, Piece, ENTRY, LAID};
+use crate::curve_inputs::{self, points_of, widths, ENTRY, LAID};
 use crate::inputs::{identity, Triple};
 use crate::kinds;
+use crate::layout::{MOST_BEAMS, POINTS, RAY_D, RAY_FLOATS, RAY_O, RAY_T_MAX, WIDTH0, WIDTH1};
 use crate::limits::ShapeParams;
+use crate::piece::{self, Piece};
 use crate::rng::{neighbour, pow2, Rng};
-use crate::sheet::{Sheet, BASES, LIST_LEN, MOST_BEAMS, MOST_BYTES, TYPES};
+use crate::sheet::{Sheet, BASES, LIST_LEN, MOST_BYTES, TYPES};
 
 pub struct Made {
     pub sort: &'static str,
@@ -142,8 +144,8 @@ fn valid(rng: &mut Rng, size: Size) -> Sheet {
 fn for_a_branch(rng: &mut Rng) -> Sheet {
     let beam = without_matrices(rng);
     let most = LAID.coordinate;
-    let points = beam.piece[..12].iter().map(|x| x.clamp(-most, most));
-    let widths = [beam.piece[12], beam.piece[13]];
+    let points = beam.piece[POINTS].iter().map(|x| x.clamp(-most, most));
+    let widths = [beam.piece[WIDTH0], beam.piece[WIDTH1]];
 
     Sheet {
         belt: ShapeParams {
@@ -245,7 +247,7 @@ fn steps(rng: &mut Rng, n: u32, scale: f32) -> Vec<f32> {
     floats
 }
 
-fn ray(rng: &mut Rng, pieces: &[Piece], reverse: bool) -> [f32; 8] {
+fn ray(rng: &mut Rng, pieces: &[Piece], reverse: bool) -> [f32; RAY_FLOATS] {
     if pieces.is_empty() {
         return rng.floats();
     }
@@ -255,11 +257,11 @@ fn ray(rng: &mut Rng, pieces: &[Piece], reverse: bool) -> [f32; 8] {
         0..=3 => upright(rng, pieces, &mut ray),
         4 => spoil(rng, &mut ray),
         5 => ray = rng.floats(),
-        6 => ray[3..6].copy_from_slice(&rng.zeros::<3>()),
+        6 => ray[RAY_D].copy_from_slice(&rng.zeros::<3>()),
         // It begins at an end of the belt.
         7 => {
-            let end = rng.pick(&[0, 9]);
-            ray[..3].copy_from_slice(&piece[end..end + 3]);
+            let [first, .., last] = piece::points(&piece);
+            ray[RAY_O].copy_from_slice(&rng.pick(&[first, last]));
         }
         8 | 9 => {
             let mut beam = Beam {
@@ -279,21 +281,28 @@ fn ray(rng: &mut Rng, pieces: &[Piece], reverse: bool) -> [f32; 8] {
 }
 
 /// Along z from below all pieces, through each deck above where it is aimed.
-fn upright(rng: &mut Rng, pieces: &[Piece], ray: &mut [f32; 8]) {
-    let z = |piece: &Piece| piece[2].min(piece[11]);
+fn upright(rng: &mut Rng, pieces: &[Piece], ray: &mut [f32; RAY_FLOATS]) {
+    let z = |piece: &Piece| {
+        let [first, .., last] = piece::points(piece);
+        first[2].min(last[2])
+    };
     let lowest = pieces.iter().map(z).fold(f32::INFINITY, f32::min);
     let piece = rng.pick(pieces);
-    let aside = piece[12] * 0.5;
-    ray[0] = piece[0] + aside * rng.unit();
-    ray[1] = piece[1] + aside * rng.unit();
-    ray[2] = lowest - rng.pick(&[0.0, 1.0, 16.0]);
-    ray[3..7].copy_from_slice(&[0.0, 0.0, rng.pick(&[1.0, 1.0, 0.5, 3.0]), f32::INFINITY]);
+    let [x, y, _] = piece::points(&piece)[0];
+    let aside = piece[WIDTH0] * 0.5;
+    ray[RAY_O].copy_from_slice(&[
+        x + aside * rng.unit(),
+        y + aside * rng.unit(),
+        lowest - rng.pick(&[0.0, 1.0, 16.0]),
+    ]);
+    ray[RAY_D].copy_from_slice(&[0.0, 0.0, rng.pick(&[1.0, 1.0, 0.5, 3.0])]);
+    ray[RAY_T_MAX] = f32::INFINITY;
 }
 
 /// One number at 01's limit, beyond it, or anything.
-fn spoil(rng: &mut Rng, ray: &mut [f32; 8]) {
+fn spoil(rng: &mut Rng, ray: &mut [f32; RAY_FLOATS]) {
     let limit = rng.signed(ENTRY);
-    ray[rng.below(8) as usize] = match rng.below(8) {
+    *rng.one_of(ray) = match rng.below(8) {
         0 => limit,
         1 | 2 => neighbour(limit, 1),
         3 => rng.nan(),
@@ -302,7 +311,7 @@ fn spoil(rng: &mut Rng, ray: &mut [f32; 8]) {
     };
     if rng.one_in(4) {
         let ends = [-pow2(-149), -1.0, f32::NEG_INFINITY, f32::NAN, -0.0];
-        ray[6] = rng.pick(&ends);
+        ray[RAY_T_MAX] = rng.pick(&ends);
     }
 }
 

@@ -1,5 +1,6 @@
 //! Floats as words of a line. A NaN is one word, 7fc00000, on the way in as on the way out.
 
+use crate::layout::MATRIX_FLOATS;
 use pbrt::core::geometry::bounds::Bounds3f;
 use pbrt::core::geometry::point::Point3f;
 use pbrt::core::geometry::vector::Vector3f;
@@ -114,6 +115,6 @@ impl Reader<'_> {
     }
 
     pub fn matrix(&mut self) -> Matrix4x4 {
-        Matrix4x4::from_row_slice(&self.floats::<16>())
+        Matrix4x4::from_row_slice(&self.floats::<MATRIX_FLOATS>())
     }
 }

@@ -8,6 +8,7 @@ from beltlib.hits import decimals, place_of
 from beltlib.labels import Label
 from beltlib.page import Page
 from beltlib.plan import Plane, clip
+from beltlib.ray import RAY_D, RAY_O, RAY_T_MAX
 from beltlib.report import Report
 from beltlib.sheet import Sheet
 from beltlib.signs import HEAD, RING, arrow_head, circled_dot, crossed_square, hit_mark
@@ -54,7 +55,7 @@ def marks_of(sheet: Sheet, belt: Belt, plane: Plane, report: Report) -> list[Mar
 
 def origins_of(sheet: Sheet, plane: Plane) -> list[Flat]:
     """Where beams begin in the plane, but those that are not finite."""
-    points = [plane.project(values(beam[:3])) for beam in sheet.beams]
+    points = [plane.project(values(beam[RAY_O])) for beam in sheet.beams]
     return [point for point in points if all(map(math.isfinite, point))]
 
 
@@ -63,7 +64,7 @@ def trace_of(
 ) -> Trace | None:
     """A beam on the page, or None where none of it is there."""
     floats = values(sheet.beams[beam])
-    origin, way, reach = floats[:3], floats[3:6], floats[6]
+    origin, way, reach = floats[RAY_O], floats[RAY_D], floats[RAY_T_MAX]
     if not all(map(math.isfinite, origin + way)):
         return None
     start = plane.project(origin)

@@ -5,6 +5,7 @@ from dataclasses import dataclass
 
 from beltlib.curve import Belt, Point, values
 from beltlib.errors import BadInput
+from beltlib.ray import RAY_D, RAY_O
 from beltlib.report import Answer, RefusedSheet, Report
 from beltlib.sheet import Sheet
 
@@ -29,7 +30,7 @@ def place_of(answer: Answer, sheet: Sheet, belt: Belt) -> Place:
 def point_along(sheet: Sheet, beam: int, t: float) -> Point:
     """The point of a beam at a distance."""
     floats = values(sheet.beams[beam])
-    return tuple(origin + t * direction for origin, direction in zip(floats[:3], floats[3:6]))
+    return tuple(origin + t * direction for origin, direction in zip(floats[RAY_O], floats[RAY_D]))
 
 
 def decimals(resolution: float) -> int:

@@ -6,6 +6,7 @@ from typing import Callable
 
 from beltlib.errors import BadInput, quoted
 from beltlib.floats import bits_of_decimal, bits_of_hexadecimal
+from beltlib.ray import RAY_FLOATS
 from beltlib.refusals import refused
 from beltlib.words import counted, either
 
@@ -36,7 +37,7 @@ FLOATS = {
     "width0": (1, "the width at the start"),
     "width1": (1, "the width at the end"),
     "point": (3, "x, y, z"),
-    "beam": (8, "origin, direction, t_max, time"),
+    "beam": (RAY_FLOATS, "origin, direction, t_max, time"),
 }
 
 Floats = tuple[int, ...]

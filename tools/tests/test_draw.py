@@ -15,6 +15,7 @@ from beltlib.curve import lay, values
 from beltlib.errors import BadInput
 from beltlib.labels import SIZE, text_width
 from beltlib.plan import Box, PLANES, Plane, band, clip
+from beltlib.ray import RAY_D, RAY_O
 from beltlib.report import read_report
 from beltlib.sheet import read_decimal, read_sheet
 
@@ -80,7 +81,7 @@ class Marks(unittest.TestCase):
         for answer, mark in zip(hits, marks):
             beam = values(sheet.beams[answer.beam])
             t = values((answer.hit.t,))[0]
-            x, y = (beam[axis] + t * beam[axis + 3] for axis in axes)
+            x, y = (beam[RAY_O][axis] + t * beam[RAY_D][axis] for axis in axes)
             self.assertAlmostEqual(mark[0], knots[0][0] + scale * (x - points[0][0]), delta=0.02)
             self.assertAlmostEqual(mark[1], knots[0][1] - scale * (y - points[0][1]), delta=0.02)
 

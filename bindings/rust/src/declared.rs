@@ -1,6 +1,10 @@
 //! The functions of the static library, as include/curve.h has them. They are declared for Rust here alone:
 //! `oracle/` and `bench/` use this file too.
 
+use crate::layout::{
+    BEAMS_FLOATS, BOX_FLOATS, MATRIX_FLOATS, RAY_FLOATS, RECORD_FLOATS, SHEET_NUMBERS,
+};
+
 extern "C" {
     pub fn curve_create(
         points: *const f32,
@@ -15,22 +19,22 @@ extern "C" {
         list_len: usize,
         pieces: *mut u32,
     ) -> u32;
-    pub fn curve_object_bound(piece: *const f32, len: usize, out: *mut [f32; 6]) -> u32;
+    pub fn curve_object_bound(piece: *const f32, len: usize, out: *mut [f32; BOX_FLOATS]) -> u32;
     pub fn curve_world_bound(
         piece: *const f32,
         len: usize,
-        object_to_world: *const [f32; 16],
-        out: *mut [f32; 6],
+        object_to_world: *const [f32; MATRIX_FLOATS],
+        out: *mut [f32; BOX_FLOATS],
     ) -> u32;
     pub fn curve_area(piece: *const f32, len: usize, out: *mut f32) -> u32;
     pub fn curve_intersect(
         piece: *const f32,
         len: usize,
-        object_to_world: *const [f32; 16],
-        world_to_object: *const [f32; 16],
+        object_to_world: *const [f32; MATRIX_FLOATS],
+        world_to_object: *const [f32; MATRIX_FLOATS],
         reverse: u32,
-        ray: *const [f32; 8],
-        record: *mut [f32; 22],
+        ray: *const [f32; RAY_FLOATS],
+        record: *mut [f32; RECORD_FLOATS],
         looked: *mut u32,
     ) -> u32;
     pub fn curve_sheet(
@@ -38,7 +42,7 @@ extern "C" {
         len: usize,
         list: *mut f32,
         list_len: usize,
-        beams: *mut [f32; 512],
-        out: *mut [u32; 4],
+        beams: *mut [f32; BEAMS_FLOATS],
+        out: *mut [u32; SHEET_NUMBERS],
     ) -> u32;
 }

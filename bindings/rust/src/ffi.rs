@@ -4,7 +4,8 @@
 //! what the library wrote, which means something only with the numbers that the header names.
 
 use crate::declared::*;
-use crate::Params;
+use crate::layout::{BEAMS_FLOATS, BOX_FLOATS, RAY_FLOATS, RECORD_FLOATS, SHEET_NUMBERS};
+use crate::{Matrix4x4, Params};
 
 /// The number of pieces goes with 0.
 pub fn create(points: &[f32], params: &Params, list: &mut [f32]) -> (u32, u32) {
@@ -31,8 +32,8 @@ pub fn create(points: &[f32], params: &Params, list: &mut [f32]) -> (u32, u32) {
 }
 
 /// The box goes with 0.
-pub fn object_bound(curve: &[f32]) -> (u32, [f32; 6]) {
-    let mut out = [0.0; 6];
+pub fn object_bound(curve: &[f32]) -> (u32, [f32; BOX_FLOATS]) {
+    let mut out = [0.0; BOX_FLOATS];
     // SAFETY: `curve` goes with its own length, and `out` is new.
     let number = unsafe { curve_object_bound(curve.as_ptr(), curve.len(), &mut out) };
 
@@ -40,8 +41,8 @@ pub fn object_bound(curve: &[f32]) -> (u32, [f32; 6]) {
 }
 
 /// The box goes with 0.
-pub fn world_bound(curve: &[f32], object_to_world: &[f32; 16]) -> (u32, [f32; 6]) {
-    let mut out = [0.0; 6];
+pub fn world_bound(curve: &[f32], object_to_world: &Matrix4x4) -> (u32, [f32; BOX_FLOATS]) {
+    let mut out = [0.0; BOX_FLOATS];
     // SAFETY: `curve` goes with its own length, and `out` is new.
     let number =
         unsafe { curve_world_bound(curve.as_ptr(), curve.len(), object_to_world, &mut out) };
@@ -61,12 +62,12 @@ pub fn area(curve: &[f32]) -> (u32, f32) {
 /// The record goes with 0, the count with 0 and 1.
 pub fn intersect(
     curve: &[f32],
-    object_to_world: &[f32; 16],
-    world_to_object: &[f32; 16],
+    object_to_world: &Matrix4x4,
+    world_to_object: &Matrix4x4,
     reverse: bool,
-    ray: &[f32; 8],
-) -> (u32, [f32; 22], u32) {
-    let mut record = [0.0; 22];
+    ray: &[f32; RAY_FLOATS],
+) -> (u32, [f32; RECORD_FLOATS], u32) {
+    let mut record = [0.0; RECORD_FLOATS];
     let mut looked = 0;
     // SAFETY: `curve` goes with its own length, and `record` and `looked` are new.
     let number = unsafe {
@@ -85,11 +86,11 @@ pub fn intersect(
     (number, record, looked)
 }
 
-/// The beams' floats go with 0. Then come pieces, reverse, beams, and the line, which alone goes with
-/// other numbers too.
-pub fn sheet(bytes: &[u8], list: &mut [f32]) -> (u32, [f32; 512], [u32; 4]) {
-    let mut beams = [0.0; 512];
-    let mut out = [0; 4];
+/// The beams' floats go with 0, and so does what is said of the sheet, but for the line, which goes with other
+/// numbers too.
+pub fn sheet(bytes: &[u8], list: &mut [f32]) -> (u32, [f32; BEAMS_FLOATS], [u32; SHEET_NUMBERS]) {
+    let mut beams = [0.0; BEAMS_FLOATS];
+    let mut out = [0; SHEET_NUMBERS];
     // SAFETY: `bytes` and `list` go with their own lengths. `list` is borrowed apart from `bytes`, and
     // `beams` and `out` are new.
     let number = unsafe {

@@ -2,7 +2,7 @@
 //! ray. A safe wrapper of the proved library `libcurve_c.a`, which answers bit by bit as `curve.rs` of
 //! pbrt-rust does.
 //!
-//! [`create_curve_shape`] lays curves into a list, sixteen floats each: four control points, two widths,
+//! [`create_curve_shape`] lays curves into a list, [`CURVE_FLOATS`] floats each: four control points, two widths,
 //! umin and umax. The other calls take one curve out of it. Every call ends with an answer or with a
 //! [`Refusal`], for every input, and a refusal leaves the list as it was. Nothing panics, and nothing is
 //! allocated but the beams of a [`Sheet`].
@@ -48,21 +48,17 @@
 mod declared;
 #[allow(unsafe_code)]
 mod ffi;
+mod layout;
 mod refusal;
 
+use layout::*;
+use std::ops::Range;
+
+pub use layout::{CURVE_FLOATS, MOST_BEAMS, MOST_CURVES, POINTS, UMAX, UMIN, WIDTH0, WIDTH1};
 pub use refusal::{Refusal, SheetRefusal};
 
-/// The floats of a curve in a list: four control points, two widths, umin, umax.
-pub const CURVE_FLOATS: usize = 16;
-
-/// A list of this many curves is long enough for every call.
-pub const MOST_CURVES: usize = 1024;
-
-/// The beams that a sheet has at most.
-pub const MOST_BEAMS: usize = 64;
-
 /// A matrix, by rows.
-pub type Matrix4x4 = [f32; 16];
+pub type Matrix4x4 = [f32; MATRIX_FLOATS];
 
 /// The matrix that leaves every point where it is.
 pub const IDENTITY: Matrix4x4 = [
@@ -254,17 +250,18 @@ pub fn intersect(
 ///
 /// [`Refusal`] 17 and 18, and those of [`create_curve_shape`]; and then the list is as it was.
 pub fn read_sheet(bytes: &[u8], list: &mut [f32]) -> Result<Sheet, SheetRefusal> {
-    let (number, beams, [curves, reverse, count, line]) = ffi::sheet(bytes, list);
+    let (number, beams, said) = ffi::sheet(bytes, list);
     let (rays, _) = beams.as_chunks();
     let sheet = Sheet {
-        curves,
-        reverse: reverse == 1,
+        curves: said[SHEET_PIECES],
+        reverse: said[SHEET_REVERSE] == 1,
         beams: rays
             .iter()
-            .take(count as usize)
+            .take(said[SHEET_BEAMS] as usize)
             .map(Ray::from_floats)
             .collect(),
     };
+    let line = said[SHEET_LINE];
 
     accepted(number, sheet).map_err(|refusal| SheetRefusal { refusal, line })
 }
@@ -280,8 +277,13 @@ fn refused(number: u32) -> Refusal {
     Refusal::from_number(number).expect("the library answers 0 to 18")
 }
 
+/// The three floats at a place.
+fn triple(floats: &[f32], place: Range<usize>) -> [f32; 3] {
+    std::array::from_fn(|k| floats[place.start + k])
+}
+
 impl Bounds3 {
-    fn from_floats(&[x0, y0, z0, x1, y1, z1]: &[f32; 6]) -> Bounds3 {
+    fn from_floats(&[x0, y0, z0, x1, y1, z1]: &[f32; BOX_FLOATS]) -> Bounds3 {
         Bounds3 {
             p_min: [x0, y0, z0],
             p_max: [x1, y1, z1],
@@ -290,37 +292,39 @@ impl Bounds3 {
 }
 
 impl Ray {
-    fn from_floats(&[ox, oy, oz, dx, dy, dz, t_max, time]: &[f32; 8]) -> Ray {
+    fn from_floats(ray: &[f32; RAY_FLOATS]) -> Ray {
         Ray {
-            o: [ox, oy, oz],
-            d: [dx, dy, dz],
-            t_max,
-            time,
+            o: triple(ray, RAY_O),
+            d: triple(ray, RAY_D),
+            t_max: ray[RAY_T_MAX],
+            time: ray[RAY_TIME],
         }
     }
 
-    fn to_floats(self) -> [f32; 8] {
-        let ([ox, oy, oz], [dx, dy, dz]) = (self.o, self.d);
+    fn to_floats(self) -> [f32; RAY_FLOATS] {
+        let mut ray = [0.0; RAY_FLOATS];
+        ray[RAY_O].copy_from_slice(&self.o);
+        ray[RAY_D].copy_from_slice(&self.d);
+        ray[RAY_T_MAX] = self.t_max;
+        ray[RAY_TIME] = self.time;
 
-        [ox, oy, oz, dx, dy, dz, self.t_max, self.time]
+        ray
     }
 }
 
 impl SurfaceInteraction {
-    fn from_floats(record: &[f32; 22]) -> SurfaceInteraction {
-        let triple = |at: usize| [record[at], record[at + 1], record[at + 2]];
-
+    fn from_floats(record: &[f32; RECORD_FLOATS]) -> SurfaceInteraction {
         SurfaceInteraction {
-            t_hit: record[0],
-            u: record[1],
-            v: record[2],
-            p: triple(3),
-            p_error: triple(6),
-            time: record[9],
-            wo: triple(10),
-            n: triple(13),
-            dpdu: triple(16),
-            dpdv: triple(19),
+            t_hit: record[RECORD_T],
+            u: record[RECORD_U],
+            v: record[RECORD_V],
+            p: triple(record, RECORD_P),
+            p_error: triple(record, RECORD_ERROR),
+            time: record[RECORD_TIME],
+            wo: triple(record, RECORD_WO),
+            n: triple(record, RECORD_N),
+            dpdu: triple(record, RECORD_DPDU),
+            dpdv: triple(record, RECORD_DPDV),
         }
     }
 }

@@ -21,7 +21,7 @@ pub enum Refusal {
     TooMany = 6,
     /// 7: a coordinate or a width is off limits.
     PointsOrWidths = 7,
-    /// 8: the list is shorter than sixteen floats a curve.
+    /// 8: the list is shorter than [`CURVE_FLOATS`](crate::CURVE_FLOATS) floats a curve.
     ListTooShort = 8,
     /// 9: the floats are not a curve within the limits.
     Curve = 9,

@@ -17,8 +17,9 @@ pub struct Output {
 
 const MARGIN: usize = 16;
 
-/// An output up to this long is shown whole, of a longer one the sixteen words about the difference.
+/// An output up to this long is shown whole, of a longer one so many words about the difference.
 const SHOWN_WHOLE: usize = 32;
+const SHOWN: usize = 16;
 
 impl Output {
     pub fn new(name: &'static str, len: usize) -> Output {
@@ -61,9 +62,9 @@ impl Output {
         if len <= SHOWN_WHOLE && !in_margin {
             return &self.words[MARGIN..MARGIN + len];
         }
-        let from = at / 16 * 16;
+        let from = at / SHOWN * SHOWN;
 
-        &self.words[from..self.words.len().min(from + 16)]
+        &self.words[from..self.words.len().min(from + SHOWN)]
     }
 }
 

@@ -5,6 +5,8 @@
 
 use crate::answer::Output;
 use declared::*;
+use oracle::inputs::Matrix;
+use oracle::layout::{BEAMS_FLOATS, BOX_FLOATS, RAY_FLOATS, RECORD_FLOATS, SHEET_NUMBERS};
 use oracle::limits::ShapeParams;
 
 #[path = "../../../bindings/rust/src/declared.rs"]
@@ -32,12 +34,12 @@ pub fn create(params: &ShapeParams, list: &mut Output, pieces: &mut Output) -> u
 }
 
 pub fn object_bound(piece: &[f32], out: &mut Output) -> u32 {
-    let out = out.array::<6>();
+    let out = out.array::<BOX_FLOATS>();
     unsafe { curve_object_bound(piece.as_ptr(), piece.len(), out.as_mut_ptr().cast()) }
 }
 
-pub fn world_bound(piece: &[f32], object_to_world: &[f32; 16], out: &mut Output) -> u32 {
-    let out = out.array::<6>();
+pub fn world_bound(piece: &[f32], object_to_world: &Matrix, out: &mut Output) -> u32 {
+    let out = out.array::<BOX_FLOATS>();
     unsafe {
         curve_world_bound(
             piece.as_ptr(),
@@ -55,13 +57,13 @@ pub fn area(piece: &[f32], out: &mut Output) -> u32 {
 
 pub fn intersect(
     piece: &[f32],
-    [object_to_world, world_to_object]: [&[f32; 16]; 2],
+    [object_to_world, world_to_object]: [&Matrix; 2],
     reverse: u32,
-    ray: &[f32; 8],
+    ray: &[f32; RAY_FLOATS],
     record: &mut Output,
     looked: &mut Output,
 ) -> u32 {
-    let record = record.array::<22>();
+    let record = record.array::<RECORD_FLOATS>();
     let [looked] = looked.array();
     unsafe {
         curve_intersect(
@@ -79,8 +81,8 @@ pub fn intersect(
 
 pub fn sheet(bytes: &[u8], list: &mut Output, beams: &mut Output, out: &mut Output) -> u32 {
     let list = list.slice();
-    let beams = beams.array::<512>();
-    let out = out.array::<4>();
+    let beams = beams.array::<BEAMS_FLOATS>();
+    let out = out.array::<SHEET_NUMBERS>();
     unsafe {
         curve_sheet(
             bytes.as_ptr(),

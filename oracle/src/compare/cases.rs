@@ -1,12 +1,17 @@
 //! A case of each operation: its inputs, what the Rust says to them, and what the library says. The inputs
 //! are those of the oracle's lines and sheets, and now and then what only a call can be given: a piece that
-//! is not sixteen floats, a reverse flag above 1, another NaN, another list.
+//! is too short or too long, a reverse flag above 1, another NaN, another list.
 
 use crate::answer::{Answer, Output};
 use crate::calls;
 use crate::tally::Reply;
+use oracle::inputs::Matrix;
 use oracle::kinds::{self, Kind};
+use oracle::layout::{
+    BEAMS_FLOATS, BOX_FLOATS, CURVE_FLOATS, RAY_FLOATS, RECORD_FLOATS, SHEET_LINE, SHEET_NUMBERS,
+};
 use oracle::limits::ShapeParams;
+use oracle::piece::Piece;
 use oracle::rng::Rng;
 use oracle::sheet::{self, Refused, LIST_LEN};
 use oracle::sheet_inputs;
@@ -37,7 +42,7 @@ pub trait Case {
     }
 }
 
-/// 01's refusal of a piece off limits, which any number of floats but sixteen is.
+/// 01's refusal of a piece off limits, and of one that is too short or too long.
 const OFF_LIMITS: u32 = 9;
 
 /// A NaN in a line.
@@ -127,7 +132,7 @@ impl Create {
     }
 }
 
-fn write_pieces(list: &mut Output, pieces: &[[f32; 16]]) {
+fn write_pieces(list: &mut Output, pieces: &[Piece]) {
     let mut words = Words::new();
     put(&mut words, pieces.as_flattened());
     list.write(0, &words);
@@ -145,23 +150,23 @@ impl PieceLine {
         let kind = kind_of::<C>();
         let words = line(kind, rng, call);
         let len = if call.one_in(16) {
-            call.pick(&[0, 15, 17, 32])
+            call.pick(&[0, CURVE_FLOATS - 1, CURVE_FLOATS + 1, 2 * CURVE_FLOATS])
         } else {
-            16
+            CURVE_FLOATS
         };
 
         PieceLine { kind, words, len }
     }
 
-    /// Of more than sixteen floats the last repeat the first.
+    /// In one that is too long the first floats come again.
     fn piece(&self) -> Vec<f32> {
-        let again = self.words[..16].iter().cycle().take(self.len);
+        let again = self.words[..CURVE_FLOATS].iter().cycle().take(self.len);
 
         again.map(|word| f32::from_bits(*word)).collect()
     }
 
     fn behind_piece(&self) -> Reader<'_> {
-        Reader(&self.words[16..])
+        Reader(&self.words[CURVE_FLOATS..])
     }
 
     fn piece_input(&self) -> (&'static str, String) {
@@ -170,7 +175,7 @@ impl PieceLine {
 
     /// The Rust's answer as it stands in a line: the number, then what goes with it.
     fn answer(&self) -> Words {
-        if self.len != 16 {
+        if self.len != CURVE_FLOATS {
             return vec![OFF_LIMITS];
         }
         let mut answer = Words::new();
@@ -192,7 +197,7 @@ impl PieceLine {
 }
 
 fn new_box() -> Output {
-    Output::new("out", 6)
+    Output::new("out", BOX_FLOATS)
 }
 
 pub struct ObjectBound(PieceLine);
@@ -255,7 +260,7 @@ impl Case for WorldBound {
 }
 
 impl WorldBound {
-    fn object_to_world(&self) -> [f32; 16] {
+    fn object_to_world(&self) -> Matrix {
         self.0.behind_piece().floats()
     }
 }
@@ -289,10 +294,10 @@ impl Case for Area {
 
 pub struct Intersect {
     line: PieceLine,
-    object_to_world: [f32; 16],
-    world_to_object: [f32; 16],
+    object_to_world: Matrix,
+    world_to_object: Matrix,
     reverse: u32,
-    ray: [f32; 8],
+    ray: [f32; RAY_FLOATS],
 }
 
 impl Case for Intersect {
@@ -370,7 +375,10 @@ impl Case for Intersect {
 
 impl Intersect {
     fn outputs() -> [Output; 2] {
-        [Output::new("record", 22), Output::new("looked", 1)]
+        [
+            Output::new("record", RECORD_FLOATS),
+            Output::new("looked", 1),
+        ]
     }
 }
 
@@ -410,14 +418,14 @@ impl Case for Sheet {
                 write_pieces(&mut list, &pieces);
                 let mut words = Words::new();
                 put(&mut words, sheet.beams.as_flattened());
-                words.resize(512, 0);
+                words.resize(BEAMS_FLOATS, 0);
                 beams.write(0, &words);
                 let counts = [pieces.len(), sheet.reverse as usize, sheet.beams.len(), 0];
                 out.write(0, &counts.map(|count| count as u32));
                 0
             }
             Err(Refused { number, line }) => {
-                out.write(3, &[line as u32]);
+                out.write(SHEET_LINE, &[line as u32]);
                 number
             }
         };
@@ -442,8 +450,8 @@ impl Sheet {
     fn outputs(&self) -> [Output; 3] {
         [
             Output::new("list", self.list_len as usize),
-            Output::new("beams", 512),
-            Output::new("out", 4),
+            Output::new("beams", BEAMS_FLOATS),
+            Output::new("out", SHEET_NUMBERS),
         ]
     }
 }
@@ -451,14 +459,14 @@ impl Sheet {
 /// Too short for the sheet's pieces, just long enough, or longer than any sheet's.
 fn list_len(call: &mut Rng, bytes: &[u8]) -> u32 {
     let needed = match sheet::laid(bytes, LIST_LEN) {
-        Ok((_, pieces)) => 16 * pieces.len() as u32,
+        Ok((_, pieces)) => (CURVE_FLOATS * pieces.len()) as u32,
         Err(_) => 0,
     };
 
     call.pick(&[
         0,
         needed / 2,
-        needed.saturating_sub(16),
+        needed.saturating_sub(CURVE_FLOATS as u32),
         needed.saturating_sub(1),
         needed,
         needed + 1,

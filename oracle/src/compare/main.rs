@@ -6,7 +6,7 @@ mod calls;
 mod cases;
 mod tally;
 
-use oracle::panics;
+use oracle::{layout, panics};
 use std::panic::set_hook;
 use std::process::exit;
 use tally::Tally;

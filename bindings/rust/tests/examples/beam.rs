@@ -1,7 +1,7 @@
 //! Beams: hits, misses, and what is refused.
 
-use crate::common::{curve_of, straight, STRAIGHT, UP};
-use curve::{intersect, Intersection, Ray, Refusal, SurfaceInteraction, IDENTITY};
+use crate::common::{curve_of, straight, STRAIGHT, UP, WRONG_LENGTHS};
+use curve::{intersect, Intersection, Ray, Refusal, SurfaceInteraction, IDENTITY, UMAX, UMIN};
 
 fn shot(curve: &[f32], ray: &Ray) -> Result<Intersection, Refusal> {
     intersect(curve, &IDENTITY, &IDENTITY, false, ray)
@@ -109,11 +109,11 @@ fn a_belt_along_the_beam_is_refused_by_15() {
 #[test]
 fn a_curve_off_limits_is_refused() {
     let twice = [straight(), straight()].concat();
-    for len in [0, 15, 17, 32] {
+    for len in WRONG_LENGTHS {
         assert_eq!(shot(&twice[..len], &UP), Err(Refusal::Curve));
     }
     let mut curve = straight();
-    curve[15] = curve[14];
+    curve[UMAX] = curve[UMIN];
     assert_eq!(shot(&curve, &UP), Err(Refusal::Curve));
 }
 
@@ -169,7 +169,7 @@ fn a_turning_point_is_refused_by_14() {
         ..UP
     };
     let mut first_half = curve_of(&[a, b, b, a], 1.0);
-    first_half[15] = 0.5;
+    first_half[UMAX] = 0.5;
     assert_eq!(shot(&first_half, &ray), Err(Refusal::ZeroDerivative));
 }
 

@@ -1,8 +1,9 @@
 //! Boxes and areas of curves.
 
-use crate::common::{curve_of, marked_list, straight, CUBIC_BEZIER, STRAIGHT};
+use crate::common::{curve_of, marked_list, straight, CUBIC_BEZIER, STRAIGHT, WRONG_LENGTHS};
 use curve::{
-    area, create_curve_shape, object_bound, world_bound, Bounds3, Params, Refusal, IDENTITY,
+    area, create_curve_shape, object_bound, world_bound, Bounds3, Params, Refusal, CURVE_FLOATS,
+    IDENTITY, POINTS, UMAX, UMIN, WIDTH0, WIDTH1,
 };
 
 #[test]
@@ -31,7 +32,7 @@ fn half_a_belt_that_gets_wider() {
     };
     let mut list = marked_list();
     assert_eq!(create_curve_shape(&STRAIGHT, &params, &mut list), Ok(2));
-    let half = &list[16..32];
+    let half = &list[CURVE_FLOATS..2 * CURVE_FLOATS];
     let expected = Bounds3 {
         p_min: [-1.5, -1.5, 2.5],
         p_max: [4.5, 1.5, 5.5],
@@ -64,18 +65,18 @@ fn a_curve_off_limits_is_refused() {
         assert_eq!(area(curve), Err(Refusal::Curve));
     };
     let twice = [straight(), straight()].concat();
-    for len in [0, 1, 15, 17, 32] {
+    for len in WRONG_LENGTHS {
         refused(&twice[..len]);
     }
     let off = [
-        (0, f32::NAN),
-        (5, f32::INFINITY),
-        (11, 2_097_152.5),
-        (12, 0.0),
-        (13, 2048.5),
-        (14, -0.25),
-        (14, 1.0),
-        (15, 1.5),
+        (POINTS.start, f32::NAN),
+        (POINTS.start + 5, f32::INFINITY),
+        (POINTS.end - 1, 2_097_152.5),
+        (WIDTH0, 0.0),
+        (WIDTH1, 2048.5),
+        (UMIN, -0.25),
+        (UMIN, 1.0),
+        (UMAX, 1.5),
     ];
     for (at, x) in off {
         let mut curve = straight();

@@ -30,6 +30,9 @@ pub const UP: Ray = Ray {
 /// What stands in a list before a call.
 pub const MARK: f32 = -77.5;
 
+/// Counts of floats that are no curve, up to those of two curves.
+pub const WRONG_LENGTHS: [usize; 5] = [0, 1, CURVE_FLOATS - 1, CURVE_FLOATS + 1, 2 * CURVE_FLOATS];
+
 pub fn marked_list() -> Vec<f32> {
     vec![MARK; CURVE_FLOATS * MOST_CURVES]
 }

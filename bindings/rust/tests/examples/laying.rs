@@ -1,7 +1,10 @@
 //! Laying: 01's marked examples M1 to M8, the split depths, and what is refused.
 
 use crate::common::{marked_list, straight, CUBIC_BEZIER, MARK, STRAIGHT};
-use curve::{create_curve_shape, Basis, CurveType, Params, Refusal, CURVE_FLOATS};
+use curve::{
+    create_curve_shape, Basis, CurveType, Params, Refusal, CURVE_FLOATS, POINTS, UMAX, UMIN,
+    WIDTH0, WIDTH1,
+};
 
 const QUADRATIC_BEZIER: Params = Params {
     degree: 2,
@@ -83,14 +86,16 @@ fn m8_a_quadratic_is_raised() {
     let points = [[0.0; 3], [3.0, 0.0, 0.0], [6.0, 0.0, 0.0]];
     let answer = create_curve_shape(&points, &QUADRATIC_BEZIER, &mut list);
     assert_eq!(answer, Ok(1));
-    assert_eq!([list[0], list[3], list[6], list[9]], [0.0, 2.0, 4.0, 6.0]);
+    let xs: Vec<f32> = list[POINTS].iter().step_by(3).copied().collect();
+    assert_eq!(xs, [0.0, 2.0, 4.0, 6.0]);
 }
 
 #[test]
 fn a_curve_is_points_widths_and_parameters() {
     let curve = straight();
-    assert_eq!(curve[..12], *STRAIGHT.as_flattened());
-    assert_eq!(curve[12..], [1.0, 1.0, 0.0, 1.0]);
+    assert_eq!(curve[POINTS], *STRAIGHT.as_flattened());
+    assert_eq!(curve[WIDTH0..=WIDTH1], [1.0, 1.0]);
+    assert_eq!(curve[UMIN..=UMAX], [0.0, 1.0]);
 }
 
 #[test]
@@ -114,7 +119,7 @@ fn split_curves_follow_each_other() {
     assert_eq!(create_curve_shape(&STRAIGHT, &params, &mut list), Ok(1024));
     for (i, curve) in list.chunks(CURVE_FLOATS).enumerate() {
         let ends = [i as f32 / 1024.0, (i + 1) as f32 / 1024.0];
-        assert_eq!(curve[14..], ends);
+        assert_eq!(curve[UMIN..=UMAX], ends);
     }
 }
 

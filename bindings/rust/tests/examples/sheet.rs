@@ -1,7 +1,9 @@
 //! Belt sheets: 01's whole case, and what is refused.
 
 use crate::common::{marked_list, straight, MARK, UP};
-use curve::{intersect, read_sheet, Intersection, Refusal, Sheet, SheetRefusal, IDENTITY};
+use curve::{
+    intersect, read_sheet, Intersection, Refusal, Sheet, SheetRefusal, CURVE_FLOATS, IDENTITY,
+};
 
 const WHOLE_CASE: &str = include_str!("../../../../examples/straight.sheet");
 
@@ -23,10 +25,11 @@ fn the_whole_case_is_read_and_answered() {
     };
     let sheet = read_sheet(WHOLE_CASE.as_bytes(), &mut list);
     assert_eq!(sheet, Ok(expected));
-    assert_eq!(list[..16], straight());
-    assert!(list[16..].iter().all(|x| *x == MARK));
+    let (curve, behind) = list.split_at(CURVE_FLOATS);
+    assert_eq!(curve, straight());
+    assert!(behind.iter().all(|x| *x == MARK));
 
-    let answer = intersect(&list[..16], &IDENTITY, &IDENTITY, false, &UP);
+    let answer = intersect(curve, &IDENTITY, &IDENTITY, false, &UP);
     let Ok(Intersection::Hit(hit, looked)) = answer else {
         panic!("no hit: {answer:?}");
     };
@@ -84,8 +87,8 @@ fn laying_refuses_without_a_line() {
         0,
     );
     assert_refused(&WHOLE_CASE.replace("flat", "ribbon"), Refusal::Type, 0);
-    let mut short = [MARK; 15];
+    let mut short = [MARK; CURVE_FLOATS - 1];
     let answer = read_sheet(WHOLE_CASE.as_bytes(), &mut short);
     assert_eq!(answer.map_err(|told| told.refusal.number()), Err(8));
-    assert_eq!(short, [MARK; 15]);
+    assert!(short.iter().all(|x| *x == MARK));
 }

@@ -1,4 +1,4 @@
-//! Vectors for drawing and aiming, which need not be exact.
+//! Vectors for drawing and aiming, which need not be exact. `bench/` uses this file too.
 
 pub type Vector = [f64; 3];
 
@@ -26,6 +26,11 @@ pub fn length(a: Vector) -> f64 {
     a.iter().map(|x| x * x).sum::<f64>().sqrt()
 }
 
+/// Zero stays zero.
 pub fn normal(a: Vector) -> Vector {
-    scaled(a, 1.0 / length(a))
+    if length(a) > 0.0 {
+        scaled(a, 1.0 / length(a))
+    } else {
+        [0.0; 3]
+    }
 }
