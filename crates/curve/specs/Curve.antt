@@ -1,12 +1,13 @@
 -- A curve's record (01: a piece): its limits, and the part from umin to umax. Definitions only.
-use mathlib.Core.Bool.{Bool, _&&_}
-use mathlib.Core.List.{List}
+use mathlib.Core.Bool.{Bool, not, _&&_}
+use mathlib.Core.List.{List, [], _∷_}
 use lib.Dec.{eqb}
 use lib.ListN.{length}
 use lib.Ieee.{Float, binary32, ofBits, le, lt}
 use Rattle.float.specs.Arith.{0f, 1f}
 use Rattle.geometry.specs.declared.point.Point3f.{Point3f}
 use Rattle.geometry.specs.Pbrt.{lerpOf}
+use Rattle.limits.specs.Refusal.{Table}
 use Rattle.limits.specs.Within.{within, widthWithin}
 use Rattle.bezier.specs.declared.cubic.Cubic.{Cubic}
 use Rattle.bezier.specs.Cubic.{blossomOf}
@@ -41,6 +42,10 @@ inLimits c =
 -- as many floats as a record has, within the limits: what passes refusal 9
 unfoldable pub isCurve : List Float → Bool
 isCurve l = eqb (length l) floats && inLimits (curveFrom l)
+
+-- 9
+unfoldable pub curveRefusals : List Float → Table
+curveRefusals l = (not (isCurve l), 9) ∷ []
 
 -- ---- the part from umin to umax
 

@@ -10,15 +10,17 @@ use Rattle.create.specs.declared.create.Created.{Created}
 use Rattle.create.specs.declared.create.Created.the-variants as created
 use Rattle.measure.specs.declared.bound.Bound.{Bound}
 use Rattle.measure.specs.declared.bound.Bound.the-variants as bound
-use Rattle.measure.specs.declared.bound.Measured.{Measured}
-use Rattle.measure.specs.declared.bound.Measured.the-variants as measured
+use Rattle.measure.specs.declared.areas.Measured.{Measured}
+use Rattle.measure.specs.declared.areas.Measured.the-variants as measured
 use Rattle.intersect.specs.declared.Intersection.{Intersection}
 use Rattle.intersect.specs.declared.Intersection.the-variants.{Hit, Miss, Refused}
 use Rattle.sheet.specs.declared.Reply.{Reply}
 use Rattle.sheet.specs.declared.Reply.the-variants as reply
 use Rattle.matrix.specs.Matrix.{matrixFrom}
 use Rattle.intersect.specs.Intersect.{intersectOf}
-use Rattle.curve_c.specs.Floats.{rayFrom, boundsFloats, recordFloats}
+use Rattle.geometry.specs.Ray.{rayFrom}
+use Rattle.curve_c.specs.Floats.{boundsFloats}
+use Rattle.interaction.specs.Floats.{recordFloats}
 
 -- ---- curve_create
 
@@ -54,7 +56,7 @@ areaAfter (measured.Refused number) old = old
 
 -- a reverse above 1 counts as 1
 unfoldable pub metBy : List Float → List Float → List Float → ℕ → List Float → Intersection
-metBy piece o2w w2o reverse ray = intersectOf piece (matrixFrom o2w) (matrixFrom w2o) (ltb 0 reverse) (rayFrom ray)
+metBy piece o2w w2o reverse ray = intersectOf piece (matrixFrom o2w 0) (matrixFrom w2o 0) (ltb 0 reverse) (rayFrom ray 0)
 
 abbrev pub metStatus : Intersection → ℕ
 metStatus (Hit h n) = 0

@@ -3,11 +3,14 @@ ghost use mathlib.Core.Path.{_≡_};
 ghost use lib.ListN.{length};
 ghost use Rattle.matrix.specs.Matrix.{matrixFrom};
 ghost use Rattle.create.specs.Create.{paramsOf, createdOf, listAfter};
-ghost use Rattle.measure.specs.Bound.{objectBound, worldBound, areaIn};
+ghost use Rattle.measure.specs.Bound.{objectBound, worldBound};
+ghost use Rattle.measure.specs.Area.{areaIn};
 ghost use Rattle.curve_c.specs.Calls.{createdStatus, piecesAfter, boundStatus, boundAfter, areaStatus, areaAfter};
+use crate::floats::BOUNDS_FLOATS;
 use crate::floats::bounds_floats;
-use crate::floats::matrix_from;
 use create::Created;
+use matrix::MATRIX_FLOATS;
+use matrix::matrix_from;
 use measure::Bound;
 use measure::Measured;
 
@@ -37,7 +40,7 @@ pub extern "C" fn curve_create(
 }
 
 // Answers 0 with a box, or its refusal.
-fn put_bound(b: Bound, out: &mut [f32; 6]) -> u32
+fn put_bound(b: Bound, out: &mut [f32; BOUNDS_FLOATS]) -> u32
     ensures { λ r. ⌜ r ≡ boundStatus b ⌝ }
     ensures { λ _. ⌜ now (out .exit) ≡ boundAfter b (now (out .entry)) ⌝ }
 {
@@ -51,7 +54,7 @@ fn put_bound(b: Bound, out: &mut [f32; 6]) -> u32
 }
 
 #[no_mangle]
-pub extern "C" fn curve_object_bound(piece: &[f32], out: &mut [f32; 6]) -> u32
+pub extern "C" fn curve_object_bound(piece: &[f32], out: &mut [f32; BOUNDS_FLOATS]) -> u32
     ensures { λ r. ⌜ r ≡ boundStatus (objectBound (now (piece .entry))) ⌝ }
     ensures { λ _. ⌜ now (out .exit) ≡ boundAfter (objectBound (now (piece .entry))) (now (out .entry)) ⌝ }
 {
@@ -61,14 +64,14 @@ pub extern "C" fn curve_object_bound(piece: &[f32], out: &mut [f32; 6]) -> u32
 #[no_mangle]
 pub extern "C" fn curve_world_bound(
     piece: &[f32],
-    object_to_world: &[f32; 16],
-    out: &mut [f32; 6],
+    object_to_world: &[f32; MATRIX_FLOATS],
+    out: &mut [f32; BOUNDS_FLOATS],
 ) -> u32
-    ensures { λ r. ⌜ r ≡ boundStatus (worldBound (now (piece .entry)) (matrixFrom (now («object_to_world» .entry)))) ⌝ }
-    ensures { λ _. ⌜ now (out .exit) ≡ boundAfter (worldBound (now (piece .entry)) (matrixFrom (now («object_to_world» .entry)))) (now (out .entry)) ⌝ }
+    ensures { λ r. ⌜ r ≡ boundStatus (worldBound (now (piece .entry)) (matrixFrom (now («object_to_world» .entry)) 0)) ⌝ }
+    ensures { λ _. ⌜ now (out .exit) ≡ boundAfter (worldBound (now (piece .entry)) (matrixFrom (now («object_to_world» .entry)) 0)) (now (out .entry)) ⌝ }
 {
     put_bound(
-        measure::world_bound(piece, matrix_from(object_to_world)),
+        measure::world_bound(piece, matrix_from(object_to_world, 0)),
         out,
     )
 }

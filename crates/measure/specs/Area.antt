@@ -1,13 +1,12 @@
 -- The area. Definitions only.
-use mathlib.Core.Bool.{not}
-use mathlib.Core.List.{List, [], _∷_}
+use mathlib.Core.List.{List}
 use lib.Ieee.{Float}
 use Rattle.float.specs.Arith.{_⊕_, _⊗_, half}
 use Rattle.limits.specs.Refusal.{firstOf, told}
 use Rattle.bezier.specs.Cubic.{chordsOf}
 use Rattle.curve.specs.declared.curve.Curve.{Curve}
 use Rattle.curve.specs.Layout.{curveFrom}
-use Rattle.curve.specs.Curve.{isCurve, controlPoints, widthAt}
+use Rattle.curve.specs.Curve.{curveRefusals, controlPoints, widthAt}
 use Rattle.measure.specs.declared.areas.Measured.{Measured}
 use Rattle.measure.specs.declared.areas.Measured.the-variants.{Area, Refused}
 
@@ -15,6 +14,5 @@ use Rattle.measure.specs.declared.areas.Measured.the-variants.{Area, Ref
 unfoldable pub areaOf : Curve → Float
 areaOf c = chordsOf (controlPoints c) ⊗ ((widthAt c (c .umin) ⊕ widthAt c (c .umax)) ⊗ half)
 
--- 9
 unfoldable pub areaIn : List Float → Measured
-areaIn l = told Refused (firstOf ((not (isCurve l), 9) ∷ [])) (Area (areaOf (curveFrom l)))
+areaIn l = told Refused (firstOf (curveRefusals l)) (Area (areaOf (curveFrom l)))

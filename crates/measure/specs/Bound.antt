@@ -15,7 +15,7 @@ use Rattle.limits.specs.Within.{matrixWithin}
 use Rattle.bezier.specs.declared.cubic.Cubic.{Cubic}
 use Rattle.curve.specs.declared.curve.Curve.{Curve}
 use Rattle.curve.specs.Layout.{curveFrom}
-use Rattle.curve.specs.Curve.{isCurve, controlPoints, widthAt}
+use Rattle.curve.specs.Curve.{isCurve, curveRefusals, controlPoints, widthAt}
 use Rattle.measure.specs.declared.bound.Bound.{Bound}
 use Rattle.measure.specs.declared.bound.Bound.the-variants.{Bounds, Refused}
 
@@ -29,9 +29,8 @@ boxOf p = union (boundsOf (p .p0) (p .p1)) (boundsOf (p .p2) (p .p3))
 unfoldable pub boundOf : Curve → Bounds3f
 boundOf c = expanded (boxOf (controlPoints c)) (maxOf (widthAt c (c .umin)) (widthAt c (c .umax)) ⊗ half)
 
--- 9
 unfoldable pub objectBound : List Float → Bound
-objectBound l = told Refused (firstOf ((not (isCurve l), 9) ∷ [])) (Bounds (boundOf (curveFrom l)))
+objectBound l = told Refused (firstOf (curveRefusals l)) (Bounds (boundOf (curveFrom l)))
 
 -- ---- the hall box
 
@@ -49,5 +48,8 @@ unfoldable pub worldBoundOf : Curve → Matrix4x4 → Bound
 worldBoundOf c m = told Refused (firstOf (matrixRefusals m)) (boundFrom (transformBounds m (boundOf c)))
 
 -- 9, 10
+unfoldable pub worldBoundRefusals : List Float → Matrix4x4 → Table
+worldBoundRefusals l m = (not (isCurve l), 9) ∷ matrixRefusals m
+
 unfoldable pub worldBound : List Float → Matrix4x4 → Bound
-worldBound l m = told Refused (firstOf ((not (isCurve l), 9) ∷ matrixRefusals m)) (boundFrom (transformBounds m (boundOf (curveFrom l))))
+worldBound l m = told Refused (firstOf (worldBoundRefusals l m)) (boundFrom (transformBounds m (boundOf (curveFrom l))))

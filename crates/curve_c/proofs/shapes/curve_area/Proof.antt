@@ -2,7 +2,7 @@
 use mathlib.Core.Path.{sym, ap, _∙_}
 use borrow.Author.Needs.{needs}
 use denote.Ref.{now}
-use Rattle.measure.specs.declared.bound.Measured.{Measured}
+use Rattle.measure.specs.declared.areas.Measured.{Measured}
 use Rattle.curve_c.specs.Calls.{areaStatus, areaAfter}
 use Rattle.curve_c.proofs.shapes.curve_area.Statement.{statement}
 use Rattle.curve_c.proofs.shapes.curve_area.Tie as tie

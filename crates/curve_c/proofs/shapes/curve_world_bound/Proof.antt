@@ -12,7 +12,7 @@ returns : tie.Need-returns
 returns c =
     let put = c .put-bound .ensures in
     let e = c .before .before .world-bound .ensures ∙ ap (worldBound _) (c .before .before .before .matrix-from .ensures) in
-    (put .0 ∙ ap boundStatus e, put .1 ∙ ap (λ (x : Bound). boundAfter x (now (c .before .before .before .before .before .args .out))) e)
+    (put .0 ∙ ap boundStatus e, put .1 ∙ ap (λ (x : Bound). boundAfter x (now (c .before .before .before .before .before .before .args .out))) e)
 
 pub curve-world-bound-spec : {M : Type 1} → statement M
-curve-world-bound-spec = tie.close (tie.spec (λ c κs. tt) (λ c κs. search needs) (λ c κs. tt) returns)
+curve-world-bound-spec = tie.close (tie.spec (λ c κs. search needs) (λ c κs. search needs) (λ c κs. tt) returns)

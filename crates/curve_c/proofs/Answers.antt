@@ -16,32 +16,36 @@ use Rattle.transform.specs.declared.bounds.TransformedBounds.{TransformedBounds
 use Rattle.transform.specs.declared.bounds.TransformedBounds.the-variants as transformed
 use Rattle.limits.specs.Refusal.{firstOf, told}
 use Rattle.create.specs.Create.{curveCount, createRefusals, createdOf}
-use Rattle.curve.specs.Curve.{isCurve}
+use Rattle.curve.specs.declared.curve.Curve.{Curve}
+use Rattle.curve.specs.Curve.{isCurve, curveRefusals}
 use Rattle.curve.specs.Layout.{curveFrom}
-use Rattle.measure.specs.Bound.{boundOf, curveRefusals, objectBound, worldBoundRefusals, boundFrom, worldBound, areaOf, areaIn}
+use Rattle.measure.specs.Bound.{boundOf, objectBound, worldBoundRefusals, boundFrom, worldBound}
+use Rattle.measure.specs.Area.{areaOf, areaIn}
 use Rattle.limits.specs.Within.{matrixWithin}
 use Rattle.limits.specs.List.{over}
 use Rattle.measure.specs.declared.bound.Bound.the-variants as bound
-use Rattle.measure.specs.declared.bound.Measured.the-variants as measured
+use Rattle.measure.specs.declared.areas.Measured.the-variants as measured
 use Rattle.create.specs.declared.create.Params.{Params}
 use Rattle.create.specs.declared.create.Created.the-variants as created
 use Rattle.intersect.specs.declared.Intersection.{Intersection}
 use Rattle.intersect.specs.declared.Intersection.the-variants.{Hit, Miss, Refused}
-use Rattle.segment.specs.declared.frame.Framed.{Framed}
-use Rattle.segment.specs.declared.frame.Framed.the-variants as framed
-use Rattle.segment.specs.declared.interaction.SurfaceInteraction.{SurfaceInteraction}
-use Rattle.segment.specs.Depth.{depthOf}
-use Rattle.segment.specs.Frame.{framedCurve}
+use Rattle.frame.specs.declared.frame.Framed.{Framed}
+use Rattle.frame.specs.declared.frame.Framed.the-variants as framed
+use Rattle.interaction.specs.declared.SurfaceInteraction.{SurfaceInteraction}
+use Rattle.overlap.specs.Depth.{depthOf}
+use Rattle.overlap.specs.Subcurve.{wholeOf}
+use Rattle.leaf.specs.Record.{flipsOf}
+use Rattle.frame.specs.Frame.{framedCurve}
 use Rattle.limits.specs.Within.{rayWithin}
-use Rattle.intersect.specs.Intersect.{repliedAt, intersectSegment, intersectFramed, rayRefusals, intersectRefusals, intersectOf}
-use Rattle.intersect.proofs.Law.{refusal-number}
+use Rattle.intersect.specs.Intersect.{repliedAt, intersectWhole, intersectFramed, rayRefusals, intersectRefusals, intersectOf}
+use Rattle.intersect.proofs.ReplySays.{refusal-number}
 use Rattle.sheet.specs.Sheet.{headOf, pointsOf, rayCount, raysOf, isWhole, noRays, refusedWith, paramsIn, withCurves, sheetWithin, sheetOf}
 use Rattle.sheet.specs.declared.head.Head.{Head}
 use Rattle.sheet.specs.declared.Reply.{Reply}
 use Rattle.sheet.specs.declared.Reply.the-variants as reply
 use Rattle.sheet.specs.declared.Sheet.{Sheet}
 use Rattle.curve_c.specs.Calls.{createdStatus, boundStatus, areaStatus, metStatus, metBy, replyStatus}
-use Rattle.curve_c.specs.Floats.{rayFrom}
+use Rattle.geometry.specs.Ray.{rayFrom}
 
 -- ---- what is told by a table of refusals
 
@@ -77,22 +81,23 @@ Numbered (Hit h n) = Unit {0}
 Numbered (Miss n) = Unit {0}
 Numbered (Refused k) = 9 ≤ k
 
-framed-numbered : (f : Framed) → Numbered (intersectFramed f)
-unfolding intersectFramed intersectSegment
-framed-numbered (framed.Curve c s) = go (repliedAt c s (depthOf (c .curve) (s .cp))) refl
+framed-numbered : (c : Curve) (flip : Bool) (f : Framed) → Numbered (intersectFramed c flip f)
+unfolding intersectFramed intersectWhole wholeOf
+framed-numbered c flip (framed.Curve ray v cp) = go (repliedAt c ray flip v (wholeOf c cp) (depthOf c cp)) refl
   where
-    go : (r : Intersection) → repliedAt c s (depthOf (c .curve) (s .cp)) ≡ r → Numbered r
+    go : (r : Intersection) → repliedAt c ray flip v (wholeOf c cp) (depthOf c cp) ≡ r → Numbered r
     go (Hit h n) e = tt
     go (Miss n) e = tt
-    go (Refused k) e = omega (arith, refusal-number c s _ k e .0)
-framed-numbered framed.ZeroWeight = lit≤ tt
-framed-numbered framed.ZeroLength = lit≤ tt
+    go (Refused k) e = omega (arith, refusal-number c v (wholeOf c cp) _ ray flip k e .0)
+framed-numbered c flip framed.ZeroWeight = lit≤ tt
+framed-numbered c flip framed.ZeroLength = lit≤ tt
 
 met-numbered : (l : List Float) (o2w w2o : Matrix4x4) (reverse : Bool) (r : Ray) → Numbered (intersectOf l o2w w2o reverse r)
 unfolding intersectOf firstOf intersectRefusals rayRefusals
 met-numbered l o2w w2o reverse r =
-    let c = framedCurve (curveFrom l) o2w w2o reverse r in
-    go (not (isCurve l)) (not (matrixWithin o2w && matrixWithin w2o)) (not (rayWithin r)) (intersectFramed c) (framed-numbered c)
+    let c = curveFrom l in
+    let f = framedCurve c w2o r in
+    go (not (isCurve l)) (not (matrixWithin o2w && matrixWithin w2o)) (not (rayWithin r)) (intersectFramed c (flipsOf reverse o2w) f) (framed-numbered c (flipsOf reverse o2w) f)
   where
     go : (a b c : Bool) (x : Intersection) → Numbered x → Numbered (told Refused (cond a 9 (cond b 10 (cond c 11 0))) x)
     go true b c x n = lit≤ tt
@@ -103,7 +108,7 @@ met-numbered l o2w w2o reverse r =
 pub met-hits : (piece o2w w2o : List Float) (reverse : ℕ) (ray : List Float) → metStatus (metBy piece o2w w2o reverse ray) ≡ 0
     → (h : SurfaceInteraction) × (n : ℕ) × (metBy piece o2w w2o reverse ray ≡ Hit h n)
 unfolding metBy
-met-hits piece o2w w2o reverse ray = go _ (met-numbered piece (matrixFrom o2w) (matrixFrom w2o) _ (rayFrom ray))
+met-hits piece o2w w2o reverse ray = go _ (met-numbered piece (matrixFrom o2w 0) (matrixFrom w2o 0) _ (rayFrom ray 0))
   where
     go : (r : Intersection) → Numbered r → metStatus r ≡ 0 → (h : SurfaceInteraction) × (n : ℕ) × (r ≡ Hit h n)
     go (Hit h n) k e = (h, n, refl)
@@ -113,7 +118,7 @@ met-hits piece o2w w2o reverse ray = go _ (met-numbered piece (matrixFrom o2w) (
 pub met-misses : (piece o2w w2o : List Float) (reverse : ℕ) (ray : List Float) → metStatus (metBy piece o2w w2o reverse ray) ≡ 1
     → (n : ℕ) × (metBy piece o2w w2o reverse ray ≡ Miss n)
 unfolding metBy
-met-misses piece o2w w2o reverse ray = go _ (met-numbered piece (matrixFrom o2w) (matrixFrom w2o) _ (rayFrom ray))
+met-misses piece o2w w2o reverse ray = go _ (met-numbered piece (matrixFrom o2w 0) (matrixFrom w2o 0) _ (rayFrom ray 0))
   where
     go : (r : Intersection) → Numbered r → metStatus r ≡ 1 → (n : ℕ) × (r ≡ Miss n)
     go (Hit h n) k e = absurd (omega (arith, e))
