@@ -1,3 +1,3 @@
 pub mod Axis
-pub mod Coordinates
 pub mod Cubic
+pub mod Polygon

@@ -1,15 +1,19 @@
 -- What holds of records as lists of floats. Assumes nothing.
-use Prim.Native.Nat.{_≤_}
+use Prim.Native.Nat.{ℕ, zero, suc, _≤_}
 use mathlib.Core.Path.{_≡_, refl, sym, _∙_}
 use mathlib.Core.Bool.{Bool, true, and-eq-true-iff}
 use mathlib.Core.List.{List}
 use native.Mathlib.Nat.{le-of-eq}
+use native.Mathlib.Omega.{arith}
 use borrow.Author.Tests.{eqb-true}
-use lib.ListN.{length}
-use lib.Ieee.{Float}
-use Rattle.geometry.specs.Point.{pointFrom}
-use Rattle.curve.specs.Layout.{floats, cubicFrom, curveFrom, curveFloats}
-use Rattle.curve.specs.Curve.{isCurve, inLimits}
+use lib.ListN.{length, getD}
+use lib.Ieee.{Float, nan}
+use Rattle.geometry.specs.Point.{pointFrom, pointLerp}
+use Rattle.bezier.specs.Axis.{blossomAt, between}
+use Rattle.bezier.specs.Cubic.{blossomOf}
+use Rattle.bezier.specs.Polygon.{component, axisOf}
+use Rattle.curve.specs.Layout.{floats, uminAt, umaxAt, axisFrom, cubicFrom, curveFrom, curveFloats}
+use Rattle.curve.specs.Curve.{isCurve, inLimits, controlPoints}
 use Rattle.curve.specs.declared.curve.Curve.{Curve}
 
 pub length-floats : (c : Curve) → length (curveFloats c) ≡ floats
@@ -30,3 +34,11 @@ is-curve-within c = refl
 pub is-long : (l : List Float) (b : Bool) → b ≡ isCurve l → b ≡ true → floats ≤ length l
 unfolding isCurve
 is-long l b e t = le-of-eq (sym (eqb-true _ _ (and-eq-true-iff _ _ .0 (sym e ∙ t) .0)))
+
+-- a coordinate goes through the blossoms on its own
+pub by-coordinate : (l : List Float) (k : ℕ) → k ≤ 2 → between (axisFrom l k) (getD l uminAt nan) (getD l umaxAt nan) ≡ axisOf (controlPoints (curveFrom l)) k
+unfolding axisOf component controlPoints blossomOf pointLerp between blossomAt axisFrom curveFrom cubicFrom pointFrom
+by-coordinate l zero h = refl
+by-coordinate l (suc zero) h = refl
+by-coordinate l (suc (suc zero)) h = refl
+by-coordinate l (suc (suc (suc k))) h = absurd (omega arith)

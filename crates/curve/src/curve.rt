@@ -2,7 +2,7 @@
 ghost use mathlib.Core.Path.{_≡_};
 ghost use Prim.Native.Nat.{_≤_};
 ghost use lib.ListN.{length};
-ghost use Rattle.bezier.specs.Coordinates.{coordinatesOf};
+ghost use Rattle.bezier.specs.Polygon.{axisOf};
 ghost use Rattle.curve.specs.Layout.{floats, curveFrom};
 ghost use Rattle.curve.specs.Curve.{pointWithin, cubicWithin, inLimits, isCurve, controlPoints, widthAt};
 use crate::layout::FLOATS;
@@ -12,7 +12,7 @@ use crate::layout::WIDTH0;
 use crate::layout::WIDTH1;
 use crate::layout::axis_from;
 use crate::layout::curve_from;
-use bezier::Coordinates;
+use bezier::Axis;
 use bezier::Cubic;
 use bezier::cubic_of;
 use bezier::part;
@@ -67,26 +67,21 @@ pub fn is_curve(s: &[f32]) -> bool
     }
 }
 
-// The control points of the part from umin to umax, coordinate by coordinate. From here on a slice is one that passed
-// refusal 9, and is asked to be as long as a record.
-pub fn coordinates(s: &[f32]) -> Coordinates
-    requires { ⌜ floats ≤ length (now s) ⌝ }
-    ensures { λ r. ⌜ r ≡ coordinatesOf (controlPoints (curveFrom (now (s .entry)))) ⌝ }
+// A coordinate of the control points of the part from umin to umax: 0 is x, 1 is y, 2 is z. From here on a slice is one
+// that passed refusal 9, and is asked to be as long as a record.
+pub fn coordinate(s: &[f32], k: usize) -> Axis
+    requires { ⌜ (floats ≤ length (now s)) × (k ≤ 2) ⌝ }
+    ensures { λ r. ⌜ r ≡ axisOf (controlPoints (curveFrom (now (s .entry)))) k ⌝ }
 {
-    let umin = s[UMIN];
-    let umax = s[UMAX];
-    let x = part(axis_from(s, 0), umin, umax);
-    let y = part(axis_from(s, 1), umin, umax);
-    let z = part(axis_from(s, 2), umin, umax);
-    Coordinates { x, y, z }
+    part(axis_from(s, k), s[UMIN], s[UMAX])
 }
 
-// The same by points: the Rust's cpobj.
+// All of them, by points: the Rust's cpobj.
 pub fn control_points(s: &[f32]) -> Cubic
     requires { ⌜ floats ≤ length (now s) ⌝ }
     ensures { λ r. ⌜ r ≡ controlPoints (curveFrom (now (s .entry))) ⌝ }
 {
-    cubic_of(coordinates(s))
+    cubic_of(coordinate(s, 0), coordinate(s, 1), coordinate(s, 2))
 }
 
 pub fn width_at(s: &[f32], u: f32) -> f32

@@ -5,7 +5,7 @@ mod layout;
 
 pub use curve::Curve;
 pub use curve::control_points;
-pub use curve::coordinates;
+pub use curve::coordinate;
 pub use curve::is_curve;
 pub use curve::width_at;
 pub use layout::FLOATS;

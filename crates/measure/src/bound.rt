@@ -2,15 +2,15 @@
 ghost use mathlib.Core.Path.{_≡_};
 ghost use Prim.Native.Nat.{_≤_};
 ghost use lib.ListN.{length};
-ghost use Rattle.bezier.specs.Coordinates.{cubicOf};
+ghost use Rattle.bezier.specs.Polygon.{cubicOf};
 ghost use Rattle.curve.specs.Layout.{floats, curveFrom};
 ghost use Rattle.measure.specs.Bound.{boxOf, boundOf, objectBound, worldBoundOf, worldBound};
-use bezier::Coordinates;
+use bezier::Axis;
 use bezier::greatest;
 use bezier::least;
 use curve::UMAX;
 use curve::UMIN;
-use curve::coordinates;
+use curve::coordinate;
 use curve::is_curve;
 use curve::width_at;
 use geometry::Bounds3f;
@@ -26,18 +26,18 @@ pub enum Bound {
 }
 
 // The box of the control points.
-fn box_of(c: Coordinates) -> Bounds3f
-    ensures { λ r. ⌜ r ≡ boxOf (cubicOf c) ⌝ }
+fn box_of(x: Axis, y: Axis, z: Axis) -> Bounds3f
+    ensures { λ r. ⌜ r ≡ boxOf (cubicOf x y z) ⌝ }
 {
     let p_min = Point3f {
-        x: least(c.x),
-        y: least(c.y),
-        z: least(c.z),
+        x: least(x),
+        y: least(y),
+        z: least(z),
     };
     let p_max = Point3f {
-        x: greatest(c.x),
-        y: greatest(c.y),
-        z: greatest(c.z),
+        x: greatest(x),
+        y: greatest(y),
+        z: greatest(z),
     };
     Bounds3f { p_min, p_max }
 }
@@ -48,7 +48,8 @@ fn curve_bound(s: &[f32]) -> Bounds3f
     ensures { λ r. ⌜ r ≡ boundOf (curveFrom (now (s .entry))) ⌝ }
 {
     let width = float::max(width_at(s, s[UMIN]), width_at(s, s[UMAX]));
-    box_of(coordinates(s)).expand(width * 0.5)
+    let points = box_of(coordinate(s, 0), coordinate(s, 1), coordinate(s, 2));
+    points.expand(width * 0.5)
 }
 
 pub fn object_bound(curve: &[f32]) -> Bound

@@ -1,6 +1,6 @@
 -- `measure::areas::curve_area` meets its contract: each return rewrites by the facts on its way. Assumes nothing.
 use borrow.Author.Needs.{needs}
-use Rattle.bezier.proofs.Transposed.{coordinates-back}
+use Rattle.bezier.proofs.Transposed.{axes-back}
 use Rattle.measure.specs.Area.{areaOf}
 use Rattle.curve.specs.Layout.{curveFrom}
 use Rattle.measure.proofs.areas.curve_area.Statement.{statement}
@@ -8,7 +8,7 @@ use Rattle.measure.proofs.areas.curve_area.Tie as tie
 
 returns : tie.Need-returns
 unfolding areaOf curveFrom
-returns c = rw (c .width-at2 .ensures, c .before .before .width-at .ensures, c .before .before .before .before .chords .ensures, c .before .before .before .before .before .coordinates .ensures, coordinates-back)
+returns c = rw (c .chords .ensures, c .before .coordinate3 .ensures, c .before .before .coordinate2 .ensures, c .before .before .before .coordinate .ensures, axes-back, c .before .before .before .before .width-at2 .ensures, c .before .before .before .before .before .before .width-at .ensures)
 
 pub curve-area-spec : {M : Type 1} → statement M
-curve-area-spec = tie.close (tie.spec (λ c κs. search needs) (λ c κs. search needs) (λ c. search needs) (λ c κs. search needs) (λ c. search needs) (λ c κs. search needs) returns)
+curve-area-spec = tie.close (tie.spec (λ c. search needs) (λ c κs. search needs) (λ c. search needs) (λ c κs. search needs) (λ c κs. search needs) (λ c κs. search needs) (λ c κs. search needs) (λ c κs. search needs) returns)

@@ -1,7 +1,7 @@
 -- `measure::bound::box_of` meets its contract: each return rewrites by the facts on its way. Assumes nothing.
 use borrow.Author.Needs.{needs}
 use Rattle.measure.specs.Bound.{boxOf}
-use Rattle.bezier.specs.Coordinates.{cubicOf}
+use Rattle.bezier.specs.Polygon.{cubicOf}
 use Rattle.geometry.specs.Bounds.{union, boundsOf}
 use Rattle.geometry.specs.Point.{leastOf, greatestOf}
 use Rattle.bezier.specs.Axis.{leastIn, greatestIn}

@@ -1,9 +1,9 @@
--- `bezier::coordinates::chords` meets its contract: each return rewrites by the facts on its way. Assumes nothing.
-use Rattle.geometry.specs.Point.{difference, distanceOf}
-use Rattle.bezier.specs.Coordinates.{cubicOf}
+-- `bezier::polygon::chords` meets its contract: each return rewrites by the facts on its way. Assumes nothing.
 use Rattle.bezier.specs.Cubic.{chordsOf}
-use Rattle.bezier.proofs.coordinates.chords.Statement.{statement}
-use Rattle.bezier.proofs.coordinates.chords.Tie as tie
+use Rattle.bezier.specs.Polygon.{cubicOf}
+use Rattle.geometry.specs.Point.{distanceOf, difference}
+use Rattle.bezier.proofs.polygon.chords.Statement.{statement}
+use Rattle.bezier.proofs.polygon.chords.Tie as tie
 
 returns : tie.Need-returns
 unfolding chordsOf cubicOf distanceOf difference

@@ -1,8 +1,8 @@
--- `bezier::coordinates::length_of` meets its contract: each return rewrites by the facts on its way. Assumes nothing.
+-- `bezier::polygon::length_of` meets its contract: each return rewrites by the facts on its way. Assumes nothing.
 use borrow.Author.Needs.{needs}
 use Rattle.geometry.specs.Vector.{lengthOf}
-use Rattle.bezier.proofs.coordinates.length_of.Statement.{statement}
-use Rattle.bezier.proofs.coordinates.length_of.Tie as tie
+use Rattle.bezier.proofs.polygon.length_of.Statement.{statement}
+use Rattle.bezier.proofs.polygon.length_of.Tie as tie
 
 returns : tie.Need-returns
 unfolding lengthOf
