@@ -10,7 +10,7 @@ use Rattle.bisection.specs.Nodes.{node, isOpen, passesAt, firstOpen, las
 use Rattle.bisection.specs.Walk.{walkOf}
 use Rattle.bisection.proofs.Below.{best-last, best-top, fold-best}
 use Rattle.bisection.proofs.Nodes.{reach, before-upTo}
-use Rattle.bisection.proofs.Walked.{times, onlyIf, leafAt, upTo, Laws, IsStop, stop-is, walk-is}
+use Rattle.bisection.proofs.Walked.{times, onlyIf, leafNode, walkedUpTo, Laws, IsStop, stop-is, walk-is}
 
 -- What is asked of the leaf's step. `reply n p` is the reply of the leaf p with n nodes counted, `miss n` the one with none, and `beats p q` says that the later p takes the place of q.
 module _ {Node St : Type 0} (step : Node → St → St) (enter : St → St) (stops passes : Node → Bool) (beats : Node → Node → Bool) (reply : ℕ → Node → St) (miss : ℕ → St) (Live : St → Type 0) where
@@ -44,7 +44,7 @@ module _ {Node St : Type 0} (low high : Node → Node) (thrown : Node → Bool) 
     value n j = reply n (at j)
 
     abbrev leaf : ℕ → St → St
-    leaf = leafAt low high thrown enter step true s d
+    leaf = leafNode low high thrown enter step true s d
 
     abbrev Stop : Option ℕ → Type 0
     Stop = IsStop low high thrown enter step over stops Live L true s d
@@ -114,7 +114,7 @@ module _ {Node St : Type 0} (low high : Node → Node) (thrown : Node → Bool) 
         let stop = firstOpen low high thrown stops true s d in
         let n = openUpTo low high thrown true s d stop in
         walkOf low high thrown enter step over d s (miss 0) ≡ atOr (λ i. reply n (node low high s d i)) (miss n) (orElse stop (bestOpen low high thrown passes beats true s d))
-    unfolding upTo
+    unfolding walkedUpTo
     walk-best =
         let o = firstOpen low high thrown stops true s d in
         let is = stop-is low high thrown enter step over stops Live L true s d in

@@ -52,83 +52,83 @@ module _ {Node St : Type 0} (enter : St → St) (step : Node → St → St) (ove
 
 module _ {Node St : Type 0} (low high : Node → Node) (thrown : Node → Bool) (enter : St → St) (step : Node → St → St) where
   -- the step of the leaf j, where it is open
-  abbrev pub leafAt : Bool → Node → ℕ → ℕ → St → St
-  leafAt w s d j r = onlyIf (isOpen low high thrown w s d j) (step (node low high s d j)) r
+  abbrev pub leafNode : Bool → Node → ℕ → ℕ → St → St
+  leafNode w s d j r = onlyIf (isOpen low high thrown w s d j) (step (node low high s d j)) r
 
   -- the steps of the open leaves below m, and an entry for each open node that starts there
-  unfoldable pub upTo : Bool → Node → ℕ → ℕ → St → St
-  upTo w s d m r = times (openBefore low high thrown w s d m) enter (foldBelow m (leafAt w s d) r)
+  unfoldable pub walkedUpTo : Bool → Node → ℕ → ℕ → St → St
+  walkedUpTo w s d m r = times (openBefore low high thrown w s d m) enter (foldBelow m (leafNode w s d) r)
 
-  upTo-none : (w : Bool) (s : Node) (d : ℕ) (r : St) → upTo w s d 0 r ≡ r
-  unfolding upTo times foldBelow
-  upTo-none w s d r = rw before-none
+  walkedUpTo-none : (w : Bool) (s : Node) (d : ℕ) (r : St) → walkedUpTo w s d 0 r ≡ r
+  unfolding walkedUpTo times foldBelow
+  walkedUpTo-none w s d r = rw before-none
 
-  upTo-one : (s : Node) (r : St) → upTo true s 0 1 r ≡ enter (step s r)
-  unfolding upTo times foldBelow isOpen node
-  upTo-one s r = rw before-leaf
+  walkedUpTo-one : (s : Node) (r : St) → walkedUpTo true s 0 1 r ≡ enter (step s r)
+  unfolding walkedUpTo times foldBelow isOpen node
+  walkedUpTo-one s r = rw before-leaf
 
-  upTo-shut : (s : Node) (d m : ℕ) (r : St) → upTo false s d m r ≡ r
-  unfolding upTo times
-  upTo-shut s d m r = rw before-shut (fold-skips m (leafAt false s d) r (λ j q. rw (open-shut low high thrown s d j)))
+  walkedUpTo-shut : (s : Node) (d m : ℕ) (r : St) → walkedUpTo false s d m r ≡ r
+  unfolding walkedUpTo times
+  walkedUpTo-shut s d m r = rw before-shut (fold-skips m (leafNode false s d) r (λ j q. rw (open-shut low high thrown s d j)))
 
-  leafAt-low : (w : Bool) (s : Node) (d j : ℕ) (q : St) → j < 2 ^ d → leafAt w s (suc d) j q ≡ leafAt (w && not (thrown (low s))) (low s) d j q
-  leafAt-low w s d j q l = rw (open-low low high thrown w s d j l, node-low low high s d j l)
+  leafNode-low : (w : Bool) (s : Node) (d j : ℕ) (q : St) → j < 2 ^ d → leafNode w s (suc d) j q ≡ leafNode (w && not (thrown (low s))) (low s) d j q
+  leafNode-low w s d j q l = rw (open-low low high thrown w s d j l, node-low low high s d j l)
 
-  leafAt-high : (w : Bool) (s : Node) (d i j : ℕ) (q : St) → i ≡ 2 ^ d → j < 2 ^ d → leafAt w s (suc d) (i + j) q ≡ leafAt (w && not (thrown (high s))) (high s) d j q
-  leafAt-high w s d i j q e l = rw (e, open-high low high thrown w s d j l, node-high low high s d j l)
+  leafNode-high : (w : Bool) (s : Node) (d i j : ℕ) (q : St) → i ≡ 2 ^ d → j < 2 ^ d → leafNode w s (suc d) (i + j) q ≡ leafNode (w && not (thrown (high s))) (high s) d j q
+  leafNode-high w s d i j q e l = rw (e, open-high low high thrown w s d j l, node-high low high s d j l)
 
   leaves-split : (w : Bool) (s : Node) (d m : ℕ) (r : St) → m ≤ 2 ^ suc d →
-      foldBelow m (leafAt w s (suc d)) r
-      ≡ foldBelow (m - 2 ^ d) (leafAt (w && not (thrown (high s))) (high s) d) (foldBelow (min m (2 ^ d)) (leafAt (w && not (thrown (low s))) (low s) d) r)
+      foldBelow m (leafNode w s (suc d)) r
+      ≡ foldBelow (m - 2 ^ d) (leafNode (w && not (thrown (high s))) (high s) d) (foldBelow (min m (2 ^ d)) (leafNode (w && not (thrown (low s))) (low s) d) r)
   leaves-split w s d m r le =
       let e : m ≡ min m (2 ^ d) + (m - 2 ^ d) = omega arith in
       let two = pow-two d in
-      ap (λ n. foldBelow n (leafAt w s (suc d)) r) e ∙ fold-split (min m (2 ^ d)) (m - 2 ^ d) (leafAt w s (suc d)) r
-      ∙ fold-ext (m - 2 ^ d) _ (leafAt (w && not (thrown (high s))) (high s) d) _ (λ j l q. leafAt-high w s d (min m (2 ^ d)) j q (omega arith) (omega arith))
-      ∙ ap (foldBelow (m - 2 ^ d) _) (fold-ext (min m (2 ^ d)) _ _ r (λ j l q. leafAt-low w s d j q (omega arith)))
+      ap (λ n. foldBelow n (leafNode w s (suc d)) r) e ∙ fold-split (min m (2 ^ d)) (m - 2 ^ d) (leafNode w s (suc d)) r
+      ∙ fold-ext (m - 2 ^ d) _ (leafNode (w && not (thrown (high s))) (high s) d) _ (λ j l q. leafNode-high w s d (min m (2 ^ d)) j q (omega arith) (omega arith))
+      ∙ ap (foldBelow (m - 2 ^ d) _) (fold-ext (min m (2 ^ d)) _ _ r (λ j l q. leafNode-low w s d j q (omega arith)))
 
   module _ (step-enter : (p : Node) (r : St) → step p (enter r) ≡ enter (step p r)) where
-    leafAt-enter : (w : Bool) (s : Node) (d j : ℕ) (r : St) → leafAt w s d j (enter r) ≡ enter (leafAt w s d j r)
-    leafAt-enter w s d j r = go (isOpen low high thrown w s d j)
+    leafNode-enter : (w : Bool) (s : Node) (d j : ℕ) (r : St) → leafNode w s d j (enter r) ≡ enter (leafNode w s d j r)
+    leafNode-enter w s d j r = go (isOpen low high thrown w s d j)
       where
         go : (b : Bool) → onlyIf b (step (node low high s d j)) (enter r) ≡ enter (onlyIf b (step (node low high s d j)) r)
         go true = step-enter _ r
         go false = refl
 
     -- the steps of the leaves below m go past n entries
-    leaves-past : (w : Bool) (s : Node) (d m n : ℕ) (r : St) → foldBelow m (leafAt w s d) (times n enter r) ≡ times n enter (foldBelow m (leafAt w s d) r)
-    leaves-past w s d m n r = times-past n enter (foldBelow m (leafAt w s d)) (fold-past m enter (leafAt w s d) (leafAt-enter w s d)) r
+    leaves-past : (w : Bool) (s : Node) (d m n : ℕ) (r : St) → foldBelow m (leafNode w s d) (times n enter r) ≡ times n enter (foldBelow m (leafNode w s d) r)
+    leaves-past w s d m n r = times-past n enter (foldBelow m (leafNode w s d)) (fold-past m enter (leafNode w s d) (leafNode-enter w s d)) r
 
-    upTo-split : (s : Node) (d m : ℕ) (r : St) → 0 < m → m ≤ 2 ^ suc d →
-        upTo true s (suc d) m r ≡ upTo (not (thrown (high s))) (high s) d (m - 2 ^ d) (upTo (not (thrown (low s))) (low s) d (min m (2 ^ d)) (enter r))
-    unfolding upTo
-    upTo-split s d m r pos le =
+    walkedUpTo-split : (s : Node) (d m : ℕ) (r : St) → 0 < m → m ≤ 2 ^ suc d →
+        walkedUpTo true s (suc d) m r ≡ walkedUpTo (not (thrown (high s))) (high s) d (m - 2 ^ d) (walkedUpTo (not (thrown (low s))) (low s) d (min m (2 ^ d)) (enter r))
+    unfolding walkedUpTo
+    walkedUpTo-split s d m r pos le =
         rw (
           before-split low high thrown true s d m pos,
           leaves-split true s d m r le,
-          fold-past (min m (2 ^ d)) enter (leafAt (not (thrown (low s))) (low s) d) (leafAt-enter (not (thrown (low s))) (low s) d) r,
+          fold-past (min m (2 ^ d)) enter (leafNode (not (thrown (low s))) (low s) d) (leafNode-enter (not (thrown (low s))) (low s) d) r,
           leaves-past (not (thrown (high s))) (high s) d (m - 2 ^ d),
-          fold-past (m - 2 ^ d) enter (leafAt (not (thrown (high s))) (high s) d) (leafAt-enter (not (thrown (high s))) (high s) d),
+          fold-past (m - 2 ^ d) enter (leafNode (not (thrown (high s))) (high s) d) (leafNode-enter (not (thrown (high s))) (high s) d),
         )
         (times-joined _ _ enter _)
 
     -- the leaves below m are the low half's
-    upTo-low : (s : Node) (d m : ℕ) (r : St) → 0 < m → m ≤ 2 ^ d → upTo true s (suc d) m r ≡ upTo (not (thrown (low s))) (low s) d m (enter r)
-    upTo-low s d m r pos le =
+    walkedUpTo-low : (s : Node) (d m : ℕ) (r : St) → 0 < m → m ≤ 2 ^ d → walkedUpTo true s (suc d) m r ≡ walkedUpTo (not (thrown (low s))) (low s) d m (enter r)
+    walkedUpTo-low s d m r pos le =
         let two = pow-two d in
         let e : m - 2 ^ d ≡ 0 = omega arith in
         let e′ : min m (2 ^ d) ≡ m = omega arith in
-        upTo-split s d m r pos (omega arith) ∙ rw (e, e′) (upTo-none _ _ _ _)
+        walkedUpTo-split s d m r pos (omega arith) ∙ rw (e, e′) (walkedUpTo-none _ _ _ _)
 
     -- they are the low half's, all of them, and m of the high half's
-    upTo-high : (s : Node) (d m : ℕ) (r : St) → m ≤ 2 ^ d →
-        upTo true s (suc d) (2 ^ d + m) r ≡ upTo (not (thrown (high s))) (high s) d m (upTo (not (thrown (low s))) (low s) d (2 ^ d) (enter r))
-    upTo-high s d m r le =
+    walkedUpTo-high : (s : Node) (d m : ℕ) (r : St) → m ≤ 2 ^ d →
+        walkedUpTo true s (suc d) (2 ^ d + m) r ≡ walkedUpTo (not (thrown (high s))) (high s) d m (walkedUpTo (not (thrown (low s))) (low s) d (2 ^ d) (enter r))
+    walkedUpTo-high s d m r le =
         let two = pow-two d in
         let pos = pow-pos d in
         let e : 2 ^ d + m - 2 ^ d ≡ m = omega arith in
         let e′ : min (2 ^ d + m) (2 ^ d) ≡ 2 ^ d = omega arith in
-        upTo-split s d (2 ^ d + m) r (omega arith) (omega arith) ∙ rw (e, e′)
+        walkedUpTo-split s d (2 ^ d + m) r (omega arith) (omega arith) ∙ rw (e, e′)
 
   -- ---- the walk
   module _ (over : St → Bool) (stops : Node → Bool) (Live : St → Type 0) (L : Laws enter step over stops Live) where
@@ -152,31 +152,31 @@ module _ {Node St : Type 0} (low high : Node → Node) (thrown : Node → Bool) 
     entries-over zero r = refl
     entries-over (suc n) r = L .over-enter _ ∙ entries-over n r
 
-    leafAt-live : (w : Bool) (s : Node) (d j : ℕ) (q : St) → passesAt low high thrown stops w s d j ≡ false → Live q → Live (leafAt w s d j q)
+    leafNode-live : (w : Bool) (s : Node) (d j : ℕ) (q : St) → passesAt low high thrown stops w s d j ≡ false → Live q → Live (leafNode w s d j q)
     unfolding passesAt
-    leafAt-live w s d j q e l = go (isOpen low high thrown w s d j) e
+    leafNode-live w s d j q e l = go (isOpen low high thrown w s d j) e
       where
         go : (b : Bool) → b && stops (node low high s d j) ≡ false → Live (onlyIf b (step (node low high s d j)) q)
         go true e = L .live-step _ q l e
         go false e = l
 
-    leafAt-over : (w : Bool) (s : Node) (d j : ℕ) (q : St) → passesAt low high thrown stops w s d j ≡ true → Live q → over (leafAt w s d j q) ≡ true
+    leafNode-over : (w : Bool) (s : Node) (d j : ℕ) (q : St) → passesAt low high thrown stops w s d j ≡ true → Live q → over (leafNode w s d j q) ≡ true
     unfolding passesAt
-    leafAt-over w s d j q e l = go (isOpen low high thrown w s d j) e
+    leafNode-over w s d j q e l = go (isOpen low high thrown w s d j) e
       where
         go : (b : Bool) → b && stops (node low high s d j) ≡ true → over (onlyIf b (step (node low high s d j)) q) ≡ true
         go true e = L .over-step _ q l e
         go false e = absurd (false≢true e)
 
     -- the reply where the leaves have been walked: live where none of them stops, and over where the last does
-    upTo-live : (w : Bool) (s : Node) (d : ℕ) (r : St) → IsStop w s d none → Live r → Live (upTo w s d (2 ^ d) r)
-    unfolding upTo
-    upTo-live w s d r h l = entries-live _ _ (fold-keeps Live (2 ^ d) (leafAt w s d) r (λ j lt q lq. leafAt-live w s d j q (h j lt) lq) l)
+    walkedUpTo-live : (w : Bool) (s : Node) (d : ℕ) (r : St) → IsStop w s d none → Live r → Live (walkedUpTo w s d (2 ^ d) r)
+    unfolding walkedUpTo
+    walkedUpTo-live w s d r h l = entries-live _ _ (fold-keeps Live (2 ^ d) (leafNode w s d) r (λ j lt q lq. leafNode-live w s d j q (h j lt) lq) l)
 
-    upTo-over : (w : Bool) (s : Node) (d i : ℕ) (r : St) → IsStop w s d (some i) → Live r → over (upTo w s d (suc i) r) ≡ true
-    unfolding upTo foldBelow
-    upTo-over w s d i r h l =
-        entries-over _ _ ∙ leafAt-over w s d i _ (h .1) (fold-keeps Live i (leafAt w s d) r (λ j lt q lq. leafAt-live w s d j q (h .2 j lt) lq) l)
+    walkedUpTo-over : (w : Bool) (s : Node) (d i : ℕ) (r : St) → IsStop w s d (some i) → Live r → over (walkedUpTo w s d (suc i) r) ≡ true
+    unfolding walkedUpTo foldBelow
+    walkedUpTo-over w s d i r h l =
+        entries-over _ _ ∙ leafNode-over w s d i _ (h .1) (fold-keeps Live i (leafNode w s d) r (λ j lt q lq. leafNode-live w s d j q (h .2 j lt) lq) l)
 
     reach-le : (w : Bool) (s : Node) (d : ℕ) → reach (2 ^ d) (stopOf w s d) ≤ 2 ^ d
     reach-le w s d = go (stopOf w s d) (stop-is w s d)
@@ -196,32 +196,32 @@ module _ {Node St : Type 0} (low high : Node → Node) (thrown : Node → Bool) 
 
     -- what is to be shown of a walk, and of a half step
     abbrev pub WalkIs : ℕ → Node → Type 0
-    WalkIs d s = (r : St) → Live r → walkOf low high thrown enter step over d s r ≡ upTo true s d (reach (2 ^ d) (stopOf true s d)) r
+    WalkIs d s = (r : St) → Live r → walkOf low high thrown enter step over d s r ≡ walkedUpTo true s d (reach (2 ^ d) (stopOf true s d)) r
 
     abbrev pub HalfIs : ℕ → Node → Type 0
-    HalfIs d s = (r : St) → Live r → halfStepOf low high thrown enter step over d s r ≡ upTo (not (thrown s)) s d (reach (2 ^ d) (stopOf (not (thrown s)) s d)) r
+    HalfIs d s = (r : St) → Live r → halfStepOf low high thrown enter step over d s r ≡ walkedUpTo (not (thrown s)) s d (reach (2 ^ d) (stopOf (not (thrown s)) s d)) r
 
     half-is : (d : ℕ) (s : Node) → WalkIs d s → HalfIs d s
     half-is d s h r l = go (thrown s)
       where
-        go : (b : Bool) → unless b (walkOf low high thrown enter step over d s) r ≡ upTo (not b) s d (reach (2 ^ d) (stopOf (not b) s d)) r
-        go true = sym (upTo-shut s d _ r)
+        go : (b : Bool) → unless b (walkOf low high thrown enter step over d s) r ≡ walkedUpTo (not b) s d (reach (2 ^ d) (stopOf (not b) s d)) r
+        go true = sym (walkedUpTo-shut s d _ r)
         go false = h r l
 
     -- the low half has been walked, and stopped or not
     after-low : (d : ℕ) (s : Node) (r : St) → Live r → HalfIs d (high s) → (o : Option ℕ) → IsStop (not (thrown (low s))) (low s) d o →
-        onward over (halfStepOf low high thrown enter step over d (high s)) (upTo (not (thrown (low s))) (low s) d (reach (2 ^ d) o) (enter r))
-        ≡ upTo true s (suc d) (reach (2 ^ suc d) (orElse o (shift (2 ^ d) (stopOf (not (thrown (high s))) (high s) d)))) r
+        onward over (halfStepOf low high thrown enter step over d (high s)) (walkedUpTo (not (thrown (low s))) (low s) d (reach (2 ^ d) o) (enter r))
+        ≡ walkedUpTo true s (suc d) (reach (2 ^ suc d) (orElse o (shift (2 ^ d) (stopOf (not (thrown (high s))) (high s) d)))) r
     after-low d s r l high-is none h =
-        let on = upTo-live (not (thrown (low s))) (low s) d (enter r) h (L .live-enter r l) in
+        let on = walkedUpTo-live (not (thrown (low s))) (low s) d (enter r) h (L .live-enter r l) in
         rw (L .live-on _ on, pow-two d, reach-shift)
-        (high-is _ on ∙ sym (upTo-high (L .step-enter) s d _ r (reach-le (not (thrown (high s))) (high s) d)))
+        (high-is _ on ∙ sym (walkedUpTo-high (L .step-enter) s d _ r (reach-le (not (thrown (high s))) (high s) d)))
     after-low d s r l high-is (some i) h =
-        rw (upTo-over (not (thrown (low s))) (low s) d i (enter r) h (L .live-enter r l)) (sym (upTo-low (L .step-enter) s d (suc i) r (omega arith) (h .0)))
+        rw (walkedUpTo-over (not (thrown (low s))) (low s) d i (enter r) h (L .live-enter r l)) (sym (walkedUpTo-low (L .step-enter) s d (suc i) r (omega arith) (h .0)))
 
     pub walk-is : (d : ℕ) (s : Node) → WalkIs d s
     unfolding walkOf
-    walk-is zero s r l = rw reach-one (L .step-enter s r ∙ sym (upTo-one s r))
+    walk-is zero s r l = rw reach-one (L .step-enter s r ∙ sym (walkedUpTo-one s r))
     walk-is (suc d) s r l =
         rw (half-is d (low s) (walk-is d (low s)) (enter r) (L .live-enter r l), first-low-high low high thrown stops true s d)
         (after-low d s r l (half-is d (high s) (walk-is d (high s))) (stopOf (not (thrown (low s))) (low s) d) (stop-is (not (thrown (low s))) (low s) d))

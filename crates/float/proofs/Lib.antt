@@ -1,6 +1,9 @@
 pub mod Bound
 pub mod Compare
-pub mod Law
+pub mod Constants
+pub mod NanDropped
+pub mod NarrowCorrect
+pub mod SqrtCorrect
 mod Closest
 mod Fields
 mod Isqrt

@@ -59,7 +59,8 @@ takes (Passes at f) before e = refl
 takes Fails before e = absurd (false≢true e)
 takes (NoFrame k t) before e = refl
 
-stop-passes : (l : Leaf) → stops l ≡ true → passes l ≡ true
+-- a leaf that stops the walk passes
+pub stop-passes : (l : Leaf) → stops l ≡ true → passes l ≡ true
 stop-passes (Passes at f) e = refl
 stop-passes Fails e = e
 stop-passes (NoFrame k t) e = refl

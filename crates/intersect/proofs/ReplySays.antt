@@ -33,18 +33,13 @@ use Rattle.leaf.proofs.NoFrame.{no-frame}
 use Rattle.interaction.specs.declared.SurfaceInteraction.{SurfaceInteraction}
 use Rattle.intersect.specs.declared.Intersection.{Intersection}
 use Rattle.intersect.specs.declared.Intersection.the-variants.{Hit, Miss, Refused}
+use Rattle.intersect.proofs.Flat.{stop-passes}
 use Rattle.intersect.specs.Intersect.{passes, stops, replyOf, subcurveAt, thrown, wholeOpen, openAt, leafAt, stopOf, lastOf, countOf, repliedAt, intersectWhole, intersectFramed, intersectRefusals, intersectOf}
 
 -- an open leaf that fails the test
 neither : (a b : Bool) → a && b ≡ false → a ≡ true → b ≡ false
 neither true b e o = e
 neither false b e o = absurd (false≢true o)
-
--- a leaf that stops the walk passes
-stops-pass : (l : Leaf) → stops l ≡ true → passes l ≡ true
-stops-pass (Passes at f) e = refl
-stops-pass Fails e = e
-stops-pass (NoFrame k t) e = refl
 
 module _ (c : Curve) (v : View) (s : Subcurve) (d : ℕ) where
   -- the leaf i is open
@@ -107,7 +102,7 @@ module _ (c : Curve) (v : View) (s : Subcurve) (d : ℕ) where
     Says (Refused k) = (i : ℕ) × (t : Float) × (stopOf c v s d ≡ some i) × (leafAt c v s d i ≡ NoFrame k t)
 
     at-stop : (i : ℕ) → stopOf c v s d ≡ some i → OpenAnd stops i → (l : Leaf) → leafAt c v s d i ≡ l → Says (replyOf c ray flip (countOf c v s d) l)
-    at-stop i e h (Passes at f) g = (refl, (i, at, f, rw e, (h .0, h .1, stops-pass (leafAt c v s d i) (h .2)), g, refl))
+    at-stop i e h (Passes at f) g = (refl, (i, at, f, rw e, (h .0, h .1, stop-passes (leafAt c v s d i) (h .2)), g, refl))
     at-stop i e h Fails g = absurd (false≢true (ap stops (sym g) ∙ h .2))
     at-stop i e h (NoFrame k t) g = (i, t, e, g)
 

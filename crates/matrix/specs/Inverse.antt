@@ -16,18 +16,18 @@ Matrix = List Float
 abbrev pub at : Matrix → ℕ → Float
 at m i = getD m i nan
 
--- a place in the matrix
+-- For functions inside: a place in the matrix.
 pub record Placed (p : Pivot) : Type 0 where
   pub row-in : p .row < 4
   pub col-in : p .col < 4
 
--- no column was taken more than n times
+-- For functions inside: no column was taken more than n times.
 pub record AtMost (n : ℕ) (ipiv : List ℕ) : Type 0 where
   pub each : (k : ℕ) → k < 4 → getD ipiv k 0 ≤ n
 
 -- ipiv[k] += 1
-unfoldable pub marked : List ℕ → ℕ → List ℕ
-marked ipiv k = set ipiv k (getD ipiv k 0 + 1)
+unfoldable pub columnTaken : List ℕ → ℕ → List ℕ
+columnTaken ipiv k = set ipiv k (getD ipiv k 0 + 1)
 
 -- if ipiv[k] == 0 { let abs = minv[j][k].abs(); if abs >= big { big = abs; irow = j; icol = k } }, with mark = ipiv[k] and x = minv[j][k]
 unfoldable pub lookEntry : Pivot → ℕ → ℕ → ℕ → Float → Pivot
@@ -113,13 +113,13 @@ inverseFlat m =
     let i0 : List ℕ = 0 ∷ 0 ∷ 0 ∷ 0 ∷ [] in
     let p0 = pivotOf m i0 in
     let m1 = turned m p0 in
-    let i1 = marked i0 (p0 .col) in
+    let i1 = columnTaken i0 (p0 .col) in
     let p1 = pivotOf m1 i1 in
     let m2 = turned m1 p1 in
-    let i2 = marked i1 (p1 .col) in
+    let i2 = columnTaken i1 (p1 .col) in
     let p2 = pivotOf m2 i2 in
     let m3 = turned m2 p2 in
-    let i3 = marked i2 (p2 .col) in
+    let i3 = columnTaken i2 (p2 .col) in
     let p3 = pivotOf m3 i3 in
     let m4 = turned m3 p3 in
     swapColumns (swapColumns (swapColumns (swapColumns m4 (p3 .row) (p3 .col)) (p2 .row) (p2 .col)) (p1 .row) (p1 .col)) (p0 .row) (p0 .col)

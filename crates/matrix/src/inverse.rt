@@ -4,7 +4,7 @@
 ghost use mathlib.Core.Path.{_≡_};
 ghost use mathlib.Core.Logic.{_≢_};
 ghost use Prim.Native.Nat.{_<_};
-ghost use Rattle.matrix.specs.Inverse.{Placed, AtMost, marked, lookEntry, lookAlong, lookRow, pivotOf, swapAt, exchangeRows, swapRows, butAt, scaleRow, cleared, clearRow, eliminated, turned, exchangeColumns, swapColumns, inverseFlat};
+ghost use Rattle.matrix.specs.Inverse.{Placed, AtMost, columnTaken, lookEntry, lookAlong, lookRow, pivotOf, swapAt, exchangeRows, swapRows, butAt, scaleRow, cleared, clearRow, eliminated, turned, exchangeColumns, swapColumns, inverseFlat};
 
 // The pivot found so far: big, irow and icol.
 pub struct Pivot {
@@ -164,7 +164,7 @@ fn eliminate(m: &mut [f32; 16], c: usize)
 // ipiv[c] += 1
 fn mark(ipiv: &mut [usize; 4], c: usize)
     requires { ⌜ (c < 4) × AtMost 3 (now ipiv) ⌝ }
-    ensures { λ _. ⌜ now (ipiv .exit) ≡ marked (now (ipiv .entry)) c ⌝ }
+    ensures { λ _. ⌜ now (ipiv .exit) ≡ columnTaken (now (ipiv .entry)) c ⌝ }
 {
     ipiv[c] = ipiv[c] + 1;
 }
@@ -173,7 +173,7 @@ fn mark(ipiv: &mut [usize; 4], c: usize)
 fn turn(m: &mut [f32; 16], ipiv: &mut [usize; 4]) -> Pivot
     requires { ⌜ AtMost 3 (now ipiv) ⌝ }
     ensures pivot { λ p. ⌜ (p ≡ pivotOf (now (m .entry)) (now (ipiv .entry))) × Placed p ⌝ }
-    ensures left { λ p. ⌜ (now (m .exit) ≡ turned (now (m .entry)) p) × (now (ipiv .exit) ≡ marked (now (ipiv .entry)) (p .col)) ⌝ }
+    ensures left { λ p. ⌜ (now (m .exit) ≡ turned (now (m .entry)) p) × (now (ipiv .exit) ≡ columnTaken (now (ipiv .entry)) (p .col)) ⌝ }
 {
     let p = find_pivot(m, ipiv);
     let row = p.row;

@@ -22,15 +22,15 @@ offsetOrigin o error d =
     cond (lt 0f (lengthSquared d)) (moved o (scaled d (dotOf (absolute d) error ⊘ lengthSquared d))) o
 
 -- the ray of the transformed origin and direction, with t_max and time as they were
-abbrev pub rayFrom : Ray → PointWithError → VectorWithError → TransformedRay
-rayFrom r (erring.Point o error) d =
+abbrev pub rayUnder : Ray → PointWithError → VectorWithError → TransformedRay
+rayUnder r (erring.Point o error) d =
     transformed.Ray
     (record {
       ray = record { o = offsetOrigin o error (d .v); d = d .v; «t_max» = r .«t_max»; time = r .time };
       «o_error» = error;
       «d_error» = d .error;
     })
-rayFrom r erring.ZeroWeight d = transformed.ZeroWeight
+rayUnder r erring.ZeroWeight d = transformed.ZeroWeight
 
 unfoldable pub transformRayError : Matrix4x4 → Ray → TransformedRay
-transformRayError m r = rayFrom r (transformPointError m (r .o)) (transformVectorError m (r .d))
+transformRayError m r = rayUnder r (transformPointError m (r .o)) (transformVectorError m (r .d))

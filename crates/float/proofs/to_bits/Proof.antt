@@ -3,7 +3,7 @@ use mathlib.Core.Path.{sym, ap, _∙_}
 use borrow.Author.Needs.{needs}
 use lib.Ieee.{binary32, toBits}
 use Rattle.float.proofs.Compare.{nan-of, not-nan}
-use Rattle.float.proofs.Law.{nan-bits}
+use Rattle.float.proofs.Constants.{nan-bits}
 use Rattle.float.proofs.to_bits.Statement.{statement}
 use Rattle.float.proofs.to_bits.Tie as tie
 

@@ -5,7 +5,7 @@ use mathlib.Core.List.{List, [], _∷_}
 use Prim.Native.Nat.{ℕ, zero, suc, _+_, _≤_, _<_}
 use native.Mathlib.Omega.{arith}
 use lib.ListN.{getD, set, getD-replicate}
-use Rattle.matrix.specs.Inverse.{AtMost, Matrix, marked, pivotOf, turned, swapColumns, inverseFlat}
+use Rattle.matrix.specs.Inverse.{AtMost, Matrix, columnTaken, pivotOf, turned, swapColumns, inverseFlat}
 use Rattle.matrix.specs.declared.inverse.Pivot.{Pivot}
 use Rattle.matrix.proofs.inverse.inverse_flat.Statement.{statement}
 use Rattle.matrix.proofs.inverse.inverse_flat.Tie as tie
@@ -17,8 +17,8 @@ set-le (x ∷ l) zero v (suc j) n h g = h
 set-le (x ∷ l) (suc k) v zero n h g = h
 set-le (x ∷ l) (suc k) v (suc j) n h g = set-le l k v j n h g
 
-after-turn : (n : ℕ) (l l′ : List ℕ) (k : ℕ) → l′ ≡ marked l k → k < 4 → AtMost n l → AtMost (n + 1) l′
-unfolding marked
+after-turn : (n : ℕ) (l l′ : List ℕ) (k : ℕ) → l′ ≡ columnTaken l k → k < 4 → AtMost n l → AtMost (n + 1) l′
+unfolding columnTaken
 after-turn n l l′ k e kh h =
     record {
       each = λ j jh. subst (λ (r : List ℕ). getD r j 0 ≤ n + 1) (sym e)
@@ -33,9 +33,9 @@ none = record { each = λ j jh. omega (arith, getD-replicate {A = ℕ} 4 j 0 0 j
 
 -- the equations that the calls leave, over plain variables: `cc` meets a bound of its own where it has to go through all of `c`
 joined : (m m1 m2 m3 m4 s3 s2 s1 s0 : Matrix) (p0 p1 p2 p3 : Pivot) (i1 i2 i3 : List ℕ)
-    → p0 ≡ pivotOf m (0 ∷ 0 ∷ 0 ∷ 0 ∷ []) → m1 ≡ turned m p0 → i1 ≡ marked (0 ∷ 0 ∷ 0 ∷ 0 ∷ []) (p0 .col)
-    → p1 ≡ pivotOf m1 i1 → m2 ≡ turned m1 p1 → i2 ≡ marked i1 (p1 .col)
-    → p2 ≡ pivotOf m2 i2 → m3 ≡ turned m2 p2 → i3 ≡ marked i2 (p2 .col)
+    → p0 ≡ pivotOf m (0 ∷ 0 ∷ 0 ∷ 0 ∷ []) → m1 ≡ turned m p0 → i1 ≡ columnTaken (0 ∷ 0 ∷ 0 ∷ 0 ∷ []) (p0 .col)
+    → p1 ≡ pivotOf m1 i1 → m2 ≡ turned m1 p1 → i2 ≡ columnTaken i1 (p1 .col)
+    → p2 ≡ pivotOf m2 i2 → m3 ≡ turned m2 p2 → i3 ≡ columnTaken i2 (p2 .col)
     → p3 ≡ pivotOf m3 i3 → m4 ≡ turned m3 p3
     → s3 ≡ swapColumns m4 (p3 .row) (p3 .col) → s2 ≡ swapColumns s3 (p2 .row) (p2 .col)
     → s1 ≡ swapColumns s2 (p1 .row) (p1 .col) → s0 ≡ swapColumns s1 (p0 .row) (p0 .col) → s0 ≡ inverseFlat m

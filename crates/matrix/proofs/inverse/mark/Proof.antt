@@ -2,7 +2,7 @@
 use borrow.Author.Needs.{needs}
 use native.Mathlib.Omega.{arith}
 use mathlib.Core.Path.{refl}
-use Rattle.matrix.specs.Inverse.{marked}
+use Rattle.matrix.specs.Inverse.{columnTaken}
 use Rattle.matrix.proofs.inverse.mark.Statement.{statement}
 use Rattle.matrix.proofs.inverse.mark.Tie as tie
 
@@ -10,7 +10,7 @@ add-ipiv : tie.Need-add-ipiv
 add-ipiv c = omega (arith, c .before .pre .1 .each (c .before .args .c) (c .before .pre .0))
 
 returns : tie.Need-returns
-unfolding marked
+unfolding columnTaken
 returns c = refl
 
 pub mark-spec : {M : Type 1} → statement M
