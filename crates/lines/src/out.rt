@@ -3,7 +3,9 @@
 // Room for the words of any answer.
 pub const ANSWER_WORDS: usize = 96;
 
-pub fn put_word(out: &mut [u32; ANSWER_WORDS], at: usize, word: u32) -> usize {
+pub type Out = [u32; ANSWER_WORDS];
+
+pub fn put_word(out: &mut Out, at: usize, word: u32) -> usize {
     if at < ANSWER_WORDS {
         out[at] = word;
         at + 1
@@ -13,7 +15,7 @@ pub fn put_word(out: &mut [u32; ANSWER_WORDS], at: usize, word: u32) -> usize {
 }
 
 // Puts floats by their bits.
-pub fn put_floats(out: &mut [u32; ANSWER_WORDS], at: usize, floats: &[f32]) -> usize {
+pub fn put_floats(out: &mut Out, at: usize, floats: &[f32]) -> usize {
     let mut end = at;
     let mut i = 0usize;
     while i < floats.len() {

@@ -4,6 +4,10 @@ use libc::STDOUT_FILENO;
 // Room for the words of any line.
 pub const LINE_WORDS: usize = 4096;
 
+pub type Words = [u32; LINE_WORDS];
+
+pub type Floats = [f32; LINE_WORDS];
+
 // The word that is being read, and how many words stand before it in its line.
 pub struct Scan {
     pub word: u32,
@@ -30,7 +34,7 @@ fn digit(b: u8) -> u32 {
 }
 
 // A word that has no room is not kept: the count is then that of a line that is too long.
-fn end_word(words: &mut [u32; LINE_WORDS], floats: &mut [f32; LINE_WORDS], s: Scan) -> usize {
+fn end_word(words: &mut Words, floats: &mut Floats, s: Scan) -> usize {
     let at = s.count;
     if at < LINE_WORDS {
         words[at] = s.word;
@@ -41,12 +45,7 @@ fn end_word(words: &mut [u32; LINE_WORDS], floats: &mut [f32; LINE_WORDS], s: Sc
     }
 }
 
-pub fn take_byte(
-    b: u8,
-    words: &mut [u32; LINE_WORDS],
-    floats: &mut [f32; LINE_WORDS],
-    s: Scan,
-) -> Step {
+pub fn take_byte(b: u8, words: &mut Words, floats: &mut Floats, s: Scan) -> Step {
     let d = digit(b);
     if d < 16 {
         return Step::More(Scan {
@@ -67,14 +66,14 @@ fn print_word(word: u32) {
     io::write_all(STDOUT_FILENO, b" ");
 }
 
-fn print_word_at(words: &[u32; LINE_WORDS], i: usize) {
+fn print_word_at(words: &Words, i: usize) {
     if i < LINE_WORDS {
         print_word(words[i]);
     }
 }
 
 // Prints a line that differs.
-pub fn print_line(words: &[u32; LINE_WORDS], n: usize) {
+pub fn print_line(words: &Words, n: usize) {
     let mut i = 0usize;
     while i < n {
         print_word_at(words, i);
