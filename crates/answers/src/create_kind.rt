@@ -10,6 +10,7 @@ use crate::places::POINTS_ROOM;
 use crate::places::SPLIT_DEPTH;
 use crate::places::WIDTH0;
 use crate::places::WIDTH1;
+use crate::put::DONE;
 use crate::put::put_status;
 use create::Created;
 use curve::FLOATS;
@@ -19,14 +20,18 @@ use lines::Out;
 use lines::Words;
 use lines::put_word;
 
-// The longest list has room for the most curves, and 100 floats behind.
-const LIST_ROOM: usize = FLOATS * 1024 + 100;
+// The most curves of a call, and the most floats that a list has behind them.
+const MOST_CURVES: usize = 1024;
+
+const SPARE: usize = 100;
+
+const LIST_ROOM: usize = FLOATS * MOST_CURVES + SPARE;
 
 // More words than an answer has: a line for which there is no room differs.
 const NO_ROOM: usize = ANSWER_WORDS + 1;
 
 fn put_created(out: &mut Out, curves: u32, hash: u64) -> usize {
-    let count = put_status(out, 0);
+    let count = put_status(out, DONE);
     let high = put_word(out, count, curves);
     let low = put_word(out, high, (hash / 0x1_0000_0000) as u32);
     put_word(out, low, (hash % 0x1_0000_0000) as u32)
@@ -56,6 +61,7 @@ fn create(
     }
 }
 
+// The cast of a parameter asks nothing, that of an element a bound.
 fn size_of(word: u32) -> usize {
     word as usize
 }

@@ -4,6 +4,7 @@ use crate::places::OBJECT_TO_WORLD;
 use crate::places::RAY;
 use crate::places::REVERSE;
 use crate::places::WORLD_TO_OBJECT;
+use crate::put::DONE;
 use crate::put::put_bounds;
 use crate::put::put_status;
 use geometry::ray_from;
@@ -18,12 +19,10 @@ use matrix::matrix_from;
 use measure::Bound;
 use measure::Measured;
 
-// The status of an answer that is no refusal, and of a miss.
-const DONE: u8 = 0;
-
+// The status of a miss.
 const MISSED: u8 = 1;
 
-// The floats of the curve that a line starts with.
+// The curve that a line starts with. The part is taken of a slice: a part of a lent array would want a proof by hand.
 fn curve_in<'a>(floats: &'a Floats) -> &'a [f32] {
     let all = &floats[..];
     &all[CURVE..OBJECT_TO_WORLD]

@@ -7,7 +7,10 @@ use lines::Out;
 use lines::put_floats;
 use lines::put_word;
 
-// The status that an answer of some kinds starts with: 0, a miss or a refusal's number.
+// The status of an answer that is no refusal.
+pub const DONE: u8 = 0;
+
+// The status that the answers of some kinds start with: it is done, it is a miss, or a refusal's number.
 pub fn put_status(out: &mut Out, status: u8) -> usize {
     put_word(out, 0, status as u32)
 }
