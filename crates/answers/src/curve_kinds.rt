@@ -1,65 +1,84 @@
-// The library's answer to a line's inputs: boxes, area and create_curve_shape.
-use crate::create::create_curve_shape;
-use crate::size::Size;
-use crate::size::refused;
-use lines::curve_of;
-use lines::matrix_at;
-use lines::put_float;
-use lines::put_point;
+// The library's answers of curves: area, boxes and where a ray meets one. Each function answers how many words it put.
+use crate::places::CURVE;
+use crate::places::OBJECT_TO_WORLD;
+use crate::places::RAY;
+use crate::places::REVERSE;
+use crate::places::WORLD_TO_OBJECT;
+use crate::put::DONE;
+use crate::put::put_bounds;
+use crate::put::put_status;
+use geometry::ray_from;
+use interaction::record_floats;
+use intersect::Intersection;
+use lines::Floats;
+use lines::Out;
+use lines::Words;
+use lines::put_floats;
+use lines::put_word;
+use matrix::matrix_from;
 use measure::Bound;
 use measure::Measured;
 
-pub const AREA: u8 = 11;
+// The status of a miss.
+const MISSED: u8 = 1;
 
-pub const OBJECT_BOUND: u8 = 12;
+// The curve that a line starts with. The part is taken of a slice: a part of a lent array would want a proof by hand.
+fn curve_in<'a>(floats: &'a Floats) -> &'a [f32] {
+    let all = &floats[..];
+    &all[CURVE..OBJECT_TO_WORLD]
+}
 
-pub const WORLD_BOUND: u8 = 13;
-
-pub const CREATE_CURVE_SHAPE: u8 = 14;
-
-fn area(words: &[u32; 4096], out: &mut [u32; 96]) -> Size {
-    let curve = curve_of(words);
-    match measure::area(&curve) {
+pub fn area(floats: &Floats, out: &mut Out) -> usize {
+    match measure::area(curve_in(floats)) {
         Measured::Area(a) => {
-            out[0] = 0;
-            put_float(out, 1, a);
-            Size {
-                inputs: 16,
-                answer: 2,
-            }
+            let at = put_status(out, DONE);
+            put_floats(out, at, &[a])
         }
-        Measured::Refused(number) => refused(out, 16, number),
+        Measured::Refused(number) => put_status(out, number),
     }
 }
 
-fn bound(out: &mut [u32; 96], inputs: usize, b: Bound) -> Size {
+fn put_bound(out: &mut Out, b: Bound) -> usize {
     match b {
         Bound::Bounds(b) => {
-            out[0] = 0;
-            put_point(out, 1, b.p_min);
-            put_point(out, 4, b.p_max);
-            Size { inputs, answer: 7 }
+            let at = put_status(out, DONE);
+            put_bounds(out, at, b)
         }
-        Bound::Refused(number) => refused(out, inputs, number),
+        Bound::Refused(number) => put_status(out, number),
     }
 }
 
-fn object_bound(words: &[u32; 4096], out: &mut [u32; 96]) -> Size {
-    let curve = curve_of(words);
-    bound(out, 16, measure::object_bound(&curve))
+pub fn object_bound(floats: &Floats, out: &mut Out) -> usize {
+    put_bound(out, measure::object_bound(curve_in(floats)))
 }
 
-fn world_bound(words: &[u32; 4096], out: &mut [u32; 96]) -> Size {
-    let curve = curve_of(words);
-    bound(out, 32, measure::world_bound(&curve, matrix_at(words, 16)))
+pub fn world_bound(floats: &Floats, out: &mut Out) -> usize {
+    let m = matrix_from(floats, OBJECT_TO_WORLD);
+    put_bound(out, measure::world_bound(curve_in(floats), m))
 }
 
-// Puts the answer of a kind of this module.
-pub fn answer(kind: u8, words: &[u32; 4096], out: &mut [u32; 96]) -> Size {
-    match kind {
-        AREA => area(words, out),
-        OBJECT_BOUND => object_bound(words, out),
-        WORLD_BOUND => world_bound(words, out),
-        _ => create_curve_shape(words, out),
+fn put_intersection(out: &mut Out, i: Intersection) -> usize {
+    match i {
+        Intersection::Hit(record, looked) => {
+            let count = put_status(out, DONE);
+            let at = put_word(out, count, looked);
+            put_floats(out, at, &record_floats(record))
+        }
+        Intersection::Miss(looked) => {
+            let count = put_status(out, MISSED);
+            put_word(out, count, looked)
+        }
+        Intersection::Refused(number) => put_status(out, number),
     }
+}
+
+pub fn intersect(words: &Words, floats: &Floats, out: &mut Out) -> usize {
+    let met = intersect::intersect(
+        curve_in(floats),
+        matrix_from(floats, OBJECT_TO_WORLD),
+        matrix_from(floats, WORLD_TO_OBJECT),
+        words[REVERSE] != 0,
+        ray_from(floats, RAY),
+    );
+    put_intersection(out, met)
 }

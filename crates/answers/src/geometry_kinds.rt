@@ -1,28 +1,20 @@
-// The library's answer to a line's inputs: floats and vectors.
-use crate::size::Size;
+// The library's answers of floats and vectors. Each function answers how many words it put.
+use crate::places::HIGH;
+use crate::places::LOW;
+use crate::places::V1;
+use crate::places::V2;
+use crate::places::X;
+use crate::put::put_vector;
 use geometry::CoordinateSystem;
 use geometry::Divided;
-use lines::float_at;
-use lines::put_float;
-use lines::put_vector;
-use lines::vector_at;
+use geometry::vector_from;
+use lines::Floats;
+use lines::Out;
+use lines::Words;
+use lines::put_floats;
 
-pub const SQRT: u8 = 0;
-
-pub const NARROW: u8 = 1;
-
-pub const CROSS: u8 = 2;
-
-pub const NORMALIZE: u8 = 3;
-
-pub const COORDINATE_SYSTEM: u8 = 4;
-
-fn sqrt(words: &[u32; 4096], out: &mut [u32; 96]) -> Size {
-    put_float(out, 0, float::sqrt(float_at(words, 0)));
-    Size {
-        inputs: 1,
-        answer: 1,
-    }
+pub fn sqrt(floats: &Floats, out: &mut Out) -> usize {
+    put_floats(out, 0, &[float::sqrt(floats[X])])
 }
 
 fn f64_of(high: u32, low: u32) -> f64 {
@@ -34,62 +26,28 @@ fn f64_of(high: u32, low: u32) -> f64 {
     }
 }
 
-fn narrow(words: &[u32; 4096], out: &mut [u32; 96]) -> Size {
-    put_float(out, 0, float::narrow(f64_of(words[0], words[1])));
-    Size {
-        inputs: 2,
-        answer: 1,
+pub fn narrow(words: &Words, out: &mut Out) -> usize {
+    put_floats(out, 0, &[float::narrow(f64_of(words[HIGH], words[LOW]))])
+}
+
+pub fn cross(floats: &Floats, out: &mut Out) -> usize {
+    let v2 = vector_from(floats, V2);
+    put_vector(out, 0, vector_from(floats, V1).cross(v2))
+}
+
+pub fn normalize(floats: &Floats, out: &mut Out) -> usize {
+    match vector_from(floats, V1).normalize() {
+        Divided::Vector(v) => put_vector(out, 0, v),
+        Divided::ByZero => 0,
     }
 }
 
-fn cross(words: &[u32; 4096], out: &mut [u32; 96]) -> Size {
-    put_vector(out, 0, vector_at(words, 0).cross(vector_at(words, 3)));
-    Size {
-        inputs: 6,
-        answer: 3,
-    }
-}
-
-fn normalize(words: &[u32; 4096], out: &mut [u32; 96]) -> Size {
-    match vector_at(words, 0).normalize() {
-        Divided::Vector(v) => {
-            put_vector(out, 0, v);
-            Size {
-                inputs: 3,
-                answer: 3,
-            }
-        }
-        Divided::ByZero => Size {
-            inputs: 3,
-            answer: 0,
-        },
-    }
-}
-
-fn coordinate_system(words: &[u32; 4096], out: &mut [u32; 96]) -> Size {
-    match geometry::vec3_coordinate_system(vector_at(words, 0)) {
+pub fn coordinate_system(floats: &Floats, out: &mut Out) -> usize {
+    match geometry::vec3_coordinate_system(vector_from(floats, V1)) {
         CoordinateSystem::Axes(v2, v3) => {
-            put_vector(out, 0, v2);
-            put_vector(out, 3, v3);
-            Size {
-                inputs: 3,
-                answer: 6,
-            }
+            let at = put_vector(out, 0, v2);
+            put_vector(out, at, v3)
         }
-        CoordinateSystem::ZeroLength => Size {
-            inputs: 3,
-            answer: 0,
-        },
-    }
-}
-
-// Puts the answer of a kind of this module.
-pub fn answer(kind: u8, words: &[u32; 4096], out: &mut [u32; 96]) -> Size {
-    match kind {
-        SQRT => sqrt(words, out),
-        NARROW => narrow(words, out),
-        CROSS => cross(words, out),
-        NORMALIZE => normalize(words, out),
-        _ => coordinate_system(words, out),
+        CoordinateSystem::ZeroLength => 0,
     }
 }

@@ -1,44 +1,38 @@
 // The library's answers to the oracle's lines, by kind, for the program `replay`.
-mod create;
+mod create_kind;
 mod curve_kinds;
 mod geometry_kinds;
-mod intersect_kind;
-mod size;
+mod kind;
+mod places;
+mod put;
 mod transform_kinds;
 
-pub use curve_kinds::AREA;
-pub use curve_kinds::CREATE_CURVE_SHAPE;
-pub use curve_kinds::OBJECT_BOUND;
-pub use curve_kinds::WORLD_BOUND;
-pub use geometry_kinds::COORDINATE_SYSTEM;
-pub use geometry_kinds::CROSS;
-pub use geometry_kinds::NARROW;
-pub use geometry_kinds::NORMALIZE;
-pub use geometry_kinds::SQRT;
-pub use size::Size;
-pub use transform_kinds::INVERSE;
-pub use transform_kinds::LOOK_AT;
-pub use transform_kinds::SWAPS_HANDEDNESS;
-pub use transform_kinds::TRANSFORM_BOUNDS;
-pub use transform_kinds::TRANSFORM_POINT;
-pub use transform_kinds::TRANSFORM_RAY_ERROR;
+pub use kind::Kind;
+pub use kind::is_box;
+use lines::Floats;
+use lines::Out;
+use lines::Words;
+pub use places::input_words;
 
-pub const INTERSECT: u8 = 15;
-
-// Whether a kind's answer is a box, in which -0.0 equals 0.0.
-pub fn is_box(kind: u8) -> bool {
+// Puts the answer to a line's inputs, which are given as words and as floats, at the start of out, and answers how many
+// words it has: none where the Rust panics.
+pub fn answer(kind: Kind, words: &Words, floats: &Floats, out: &mut Out) -> usize {
     match kind {
-        TRANSFORM_BOUNDS | OBJECT_BOUND | WORLD_BOUND => true,
-        _ => false,
-    }
-}
-
-// Puts the answer to the inputs at the start of a line at the start of out.
-pub fn answer(kind: u8, words: &[u32; 4096], out: &mut [u32; 96]) -> Size {
-    match kind {
-        0..=4 => geometry_kinds::answer(kind, words, out),
-        5..=10 => transform_kinds::answer(kind, words, out),
-        INTERSECT => intersect_kind::intersect_line(words, out),
-        _ => curve_kinds::answer(kind, words, out),
+        Kind::Sqrt => geometry_kinds::sqrt(floats, out),
+        Kind::Narrow => geometry_kinds::narrow(words, out),
+        Kind::Cross => geometry_kinds::cross(floats, out),
+        Kind::Normalize => geometry_kinds::normalize(floats, out),
+        Kind::CoordinateSystem => geometry_kinds::coordinate_system(floats, out),
+        Kind::Inverse => transform_kinds::inverse(floats, out),
+        Kind::TransformPoint => transform_kinds::transform_point(floats, out),
+        Kind::TransformRayError => transform_kinds::transform_ray_error(floats, out),
+        Kind::TransformBounds => transform_kinds::transform_bounds(floats, out),
+        Kind::SwapsHandedness => transform_kinds::swaps_handedness(floats, out),
+        Kind::LookAt => transform_kinds::look_at(floats, out),
+        Kind::Area => curve_kinds::area(floats, out),
+        Kind::ObjectBound => curve_kinds::object_bound(floats, out),
+        Kind::WorldBound => curve_kinds::world_bound(floats, out),
+        Kind::CreateCurveShape => create_kind::create_curve_shape(words, floats, out),
+        Kind::Intersect => curve_kinds::intersect(words, floats, out),
     }
 }

@@ -1,141 +1,83 @@
-// The library's answer to a line's inputs: matrices and transforms.
-use crate::size::Size;
+// The library's answers of matrices and transforms. Each function answers how many words it put.
+use crate::places::LOOK;
+use crate::places::MATRIX;
+use crate::places::MATRIX_RAY;
+use crate::places::P_MAX;
+use crate::places::P_MIN;
+use crate::places::POINT;
+use crate::places::POS;
+use crate::places::UP;
+use crate::put::put_bounds;
+use crate::put::put_point;
+use crate::put::put_ray;
+use crate::put::put_vector;
 use geometry::Bounds3f;
-use geometry::Ray;
-use lines::float_at;
-use lines::matrix_at;
-use lines::point_at;
-use lines::put_float;
-use lines::put_matrix;
-use lines::put_point;
-use lines::put_vector;
-use lines::vector_at;
+use geometry::point_from;
+use geometry::ray_from;
+use geometry::vector_from;
+use lines::Floats;
+use lines::Out;
+use lines::put_floats;
+use lines::put_word;
+use matrix::flatten;
+use matrix::matrix_from;
 use transform::LookAt;
 use transform::TransformedBounds;
 use transform::TransformedPoint;
 use transform::TransformedRay;
 
-pub const INVERSE: u8 = 5;
+pub fn inverse(floats: &Floats, out: &mut Out) -> usize {
+    let m = matrix_from(floats, MATRIX).inverse();
+    put_floats(out, 0, &flatten(m))
+}
 
-pub const TRANSFORM_POINT: u8 = 6;
-
-pub const TRANSFORM_RAY_ERROR: u8 = 7;
-
-pub const TRANSFORM_BOUNDS: u8 = 8;
-
-pub const SWAPS_HANDEDNESS: u8 = 9;
-
-pub const LOOK_AT: u8 = 10;
-
-fn inverse(words: &[u32; 4096], out: &mut [u32; 96]) -> Size {
-    put_matrix(out, 0, matrix_at(words, 0).inverse());
-    Size {
-        inputs: 16,
-        answer: 16,
+pub fn transform_point(floats: &Floats, out: &mut Out) -> usize {
+    let p = point_from(floats, POINT);
+    match transform::transform_point(matrix_from(floats, MATRIX), p) {
+        TransformedPoint::Point(p) => put_point(out, 0, p),
+        TransformedPoint::ZeroWeight => 0,
     }
 }
 
-fn transform_point(words: &[u32; 4096], out: &mut [u32; 96]) -> Size {
-    match transform::transform_point(matrix_at(words, 0), point_at(words, 16)) {
-        TransformedPoint::Point(p) => {
-            put_point(out, 0, p);
-            Size {
-                inputs: 19,
-                answer: 3,
-            }
-        }
-        TransformedPoint::ZeroWeight => Size {
-            inputs: 19,
-            answer: 0,
-        },
-    }
-}
-
-fn transform_ray_error(words: &[u32; 4096], out: &mut [u32; 96]) -> Size {
-    let r = Ray {
-        o: point_at(words, 16),
-        d: vector_at(words, 19),
-        t_max: float_at(words, 22),
-        time: float_at(words, 23),
-    };
-    match transform::transform_ray_error(matrix_at(words, 0), r) {
+pub fn transform_ray_error(floats: &Floats, out: &mut Out) -> usize {
+    let ray = ray_from(floats, MATRIX_RAY);
+    match transform::transform_ray_error(matrix_from(floats, MATRIX), ray) {
         TransformedRay::Ray(r) => {
-            put_point(out, 0, r.ray.o);
-            put_vector(out, 3, r.ray.d);
-            put_float(out, 6, r.ray.t_max);
-            put_float(out, 7, r.ray.time);
-            put_vector(out, 8, r.o_error);
-            put_vector(out, 11, r.d_error);
-            Size {
-                inputs: 24,
-                answer: 14,
-            }
+            let o_error = put_ray(out, 0, r.ray);
+            let d_error = put_vector(out, o_error, r.o_error);
+            put_vector(out, d_error, r.d_error)
         }
-        TransformedRay::ZeroWeight => Size {
-            inputs: 24,
-            answer: 0,
-        },
+        TransformedRay::ZeroWeight => 0,
     }
 }
 
-fn transform_bounds(words: &[u32; 4096], out: &mut [u32; 96]) -> Size {
+pub fn transform_bounds(floats: &Floats, out: &mut Out) -> usize {
     let b = Bounds3f {
-        p_min: point_at(words, 16),
-        p_max: point_at(words, 19),
+        p_min: point_from(floats, P_MIN),
+        p_max: point_from(floats, P_MAX),
     };
-    match transform::transform_bounds(matrix_at(words, 0), b) {
-        TransformedBounds::Bounds(b) => {
-            put_point(out, 0, b.p_min);
-            put_point(out, 3, b.p_max);
-            Size {
-                inputs: 22,
-                answer: 6,
-            }
-        }
-        TransformedBounds::ZeroWeight => Size {
-            inputs: 22,
-            answer: 0,
-        },
+    match transform::transform_bounds(matrix_from(floats, MATRIX), b) {
+        TransformedBounds::Bounds(b) => put_bounds(out, 0, b),
+        TransformedBounds::ZeroWeight => 0,
     }
 }
 
-fn swaps_handedness(words: &[u32; 4096], out: &mut [u32; 96]) -> Size {
-    if transform::swaps_handedness(matrix_at(words, 0)) {
-        out[0] = 1;
+pub fn swaps_handedness(floats: &Floats, out: &mut Out) -> usize {
+    if transform::swaps_handedness(matrix_from(floats, MATRIX)) {
+        put_word(out, 0, 1)
     } else {
-        out[0] = 0;
-    }
-    Size {
-        inputs: 16,
-        answer: 1,
+        put_word(out, 0, 0)
     }
 }
 
-fn look_at(words: &[u32; 4096], out: &mut [u32; 96]) -> Size {
-    match transform::look_at(point_at(words, 0), point_at(words, 3), vector_at(words, 6)) {
+pub fn look_at(floats: &Floats, out: &mut Out) -> usize {
+    let pos = point_from(floats, POS);
+    let look = point_from(floats, LOOK);
+    match transform::look_at(pos, look, vector_from(floats, UP)) {
         LookAt::Transform(t) => {
-            put_matrix(out, 0, t.m);
-            put_matrix(out, 16, t.m_inv);
-            Size {
-                inputs: 9,
-                answer: 32,
-            }
+            let m_inv = put_floats(out, 0, &flatten(t.m));
+            put_floats(out, m_inv, &flatten(t.m_inv))
         }
-        LookAt::ZeroLength => Size {
-            inputs: 9,
-            answer: 0,
-        },
-    }
-}
-
-// Puts the answer of a kind of this module.
-pub fn answer(kind: u8, words: &[u32; 4096], out: &mut [u32; 96]) -> Size {
-    match kind {
-        INVERSE => inverse(words, out),
-        TRANSFORM_POINT => transform_point(words, out),
-        TRANSFORM_RAY_ERROR => transform_ray_error(words, out),
-        TRANSFORM_BOUNDS => transform_bounds(words, out),
-        SWAPS_HANDEDNESS => swaps_handedness(words, out),
-        _ => look_at(words, out),
+        LookAt::ZeroLength => 0,
     }
 }

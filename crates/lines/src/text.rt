@@ -1,5 +1,12 @@
-// Lines of words in hexadecimal, a byte at a time.
+// Lines of words in hexadecimal, a byte at a time. Each word is kept as it stands and as the float that has its bits.
 use libc::STDOUT_FILENO;
+
+// Room for the words of any line.
+pub const LINE_WORDS: usize = 4096;
+
+pub type Words = [u32; LINE_WORDS];
+
+pub type Floats = [f32; LINE_WORDS];
 
 // The word that is being read, and how many words stand before it in its line.
 pub struct Scan {
@@ -26,19 +33,19 @@ fn digit(b: u8) -> u32 {
     }
 }
 
-// A line of more than 4,096 words keeps the first 4,095 and the last.
-fn end_word(words: &mut [u32; 4096], s: Scan) -> usize {
+// A word that has no room is not kept: the count is then that of a line that is too long.
+fn end_word(words: &mut Words, floats: &mut Floats, s: Scan) -> usize {
     let at = s.count;
-    if at < 4095 {
+    if at < LINE_WORDS {
         words[at] = s.word;
+        floats[at] = float::of_bits(s.word);
         at + 1
     } else {
-        words[4095] = s.word;
-        4096
+        LINE_WORDS + 1
     }
 }
 
-pub fn take_byte(b: u8, words: &mut [u32; 4096], s: Scan) -> Step {
+pub fn take_byte(b: u8, words: &mut Words, floats: &mut Floats, s: Scan) -> Step {
     let d = digit(b);
     if d < 16 {
         return Step::More(Scan {
@@ -46,7 +53,7 @@ pub fn take_byte(b: u8, words: &mut [u32; 4096], s: Scan) -> Step {
             count: s.count,
         });
     }
-    let n = end_word(words, s);
+    let n = end_word(words, floats, s);
     if b == b'\n' {
         Step::End(n)
     } else {
@@ -59,14 +66,14 @@ fn print_word(word: u32) {
     io::write_all(STDOUT_FILENO, b" ");
 }
 
-fn print_word_at(words: &[u32; 4096], i: usize) {
-    if i < 4096 {
+fn print_word_at(words: &Words, i: usize) {
+    if i < LINE_WORDS {
         print_word(words[i]);
     }
 }
 
 // Prints a line that differs.
-pub fn print_line(words: &[u32; 4096], n: usize) {
+pub fn print_line(words: &Words, n: usize) {
     let mut i = 0usize;
     while i < n {
         print_word_at(words, i);

@@ -49,8 +49,8 @@ pub fn matrix_from(s: &[f32], at: usize) -> Matrix4x4
     }
 }
 
-// Sixteen floats, row by row.
-fn flatten(m: Matrix4x4) -> [f32; MATRIX_FLOATS]
+// A matrix as floats, row by row: matrix_from reads it back.
+pub fn flatten(m: Matrix4x4) -> [f32; MATRIX_FLOATS]
     ensures { λ r. ⌜ r ≡ flat m ⌝ }
 {
     [

@@ -5,6 +5,10 @@ use libc::STDOUT_FILENO;
 mod compare;
 mod scan;
 
+use answers::Kind;
+use lines::Floats;
+use lines::LINE_WORDS;
+use lines::Words;
 use scan::Tally;
 
 // Reads once, and answers whether to go on.
@@ -13,7 +17,7 @@ struct Turn {
     goes_on: bool,
 }
 
-fn read_some(fd: i32, kind: u8, words: &mut [u32; 4096], tally: Tally) -> Turn {
+fn read_some(fd: i32, kind: Kind, words: &mut Words, floats: &mut Floats, tally: Tally) -> Turn {
     let mut buf = io::large_buffer();
     let got = libc::read(fd, &mut buf);
     if got <= 0 {
@@ -23,7 +27,7 @@ fn read_some(fd: i32, kind: u8, words: &mut [u32; 4096], tally: Tally) -> Turn {
         };
     }
     let n = io::count(got, &buf);
-    let after = scan::scan_bytes(kind, &buf[..n], words, tally);
+    let after = scan::scan_bytes(kind, &buf[..n], words, floats, tally);
     Turn {
         tally: after,
         goes_on: true,
@@ -32,12 +36,13 @@ fn read_some(fd: i32, kind: u8, words: &mut [u32; 4096], tally: Tally) -> Turn {
 
 // A proved loop has to end, and nothing says that a file does: the turns are counted down from a
 // number that no run uses up.
-fn read_all(fd: i32, kind: u8) -> Tally {
-    let mut words = [0u32; 4096];
+fn read_all(fd: i32, kind: Kind) -> Tally {
+    let mut words = [0u32; LINE_WORDS];
+    let mut floats = [0.0f32; LINE_WORDS];
     let mut tally = scan::start();
     let mut turns = u64::MAX;
     while turns > 0 {
-        let turn = read_some(fd, kind, &mut words, tally);
+        let turn = read_some(fd, kind, &mut words, &mut floats, tally);
         tally = turn.tally;
         if !turn.goes_on {
             return tally;
@@ -47,7 +52,7 @@ fn read_all(fd: i32, kind: u8) -> Tally {
     tally
 }
 
-fn replay(kind: u8, path: &[u8]) {
+fn replay(kind: Kind, path: &[u8]) {
     let fd = os::open_read(path);
     if fd < 0 {
         os::fail(path);
@@ -63,33 +68,21 @@ fn replay(kind: u8, path: &[u8]) {
     io::write_all(STDOUT_FILENO, b" differ\n");
 }
 
-fn replay_geometry() {
-    replay(answers::SQRT, b"sqrt.txt");
-    replay(answers::NARROW, b"narrow.txt");
-    replay(answers::CROSS, b"cross.txt");
-    replay(answers::NORMALIZE, b"normalize.txt");
-    replay(answers::COORDINATE_SYSTEM, b"coordinate_system.txt");
-}
-
-fn replay_transform() {
-    replay(answers::INVERSE, b"inverse.txt");
-    replay(answers::TRANSFORM_POINT, b"transform_point.txt");
-    replay(answers::TRANSFORM_RAY_ERROR, b"transform_ray_error.txt");
-    replay(answers::TRANSFORM_BOUNDS, b"transform_bounds.txt");
-    replay(answers::SWAPS_HANDEDNESS, b"swaps_handedness.txt");
-    replay(answers::LOOK_AT, b"look_at.txt");
-}
-
-fn replay_curve() {
-    replay(answers::AREA, b"area.txt");
-    replay(answers::OBJECT_BOUND, b"object_bound.txt");
-    replay(answers::WORLD_BOUND, b"world_bound.txt");
-    replay(answers::CREATE_CURVE_SHAPE, b"create_curve_shape.txt");
-    replay(answers::INTERSECT, b"intersect.txt");
-}
-
 fn main() {
-    replay_geometry();
-    replay_transform();
-    replay_curve();
+    replay(Kind::Sqrt, b"sqrt.txt");
+    replay(Kind::Narrow, b"narrow.txt");
+    replay(Kind::Cross, b"cross.txt");
+    replay(Kind::Normalize, b"normalize.txt");
+    replay(Kind::CoordinateSystem, b"coordinate_system.txt");
+    replay(Kind::Inverse, b"inverse.txt");
+    replay(Kind::TransformPoint, b"transform_point.txt");
+    replay(Kind::TransformRayError, b"transform_ray_error.txt");
+    replay(Kind::TransformBounds, b"transform_bounds.txt");
+    replay(Kind::SwapsHandedness, b"swaps_handedness.txt");
+    replay(Kind::LookAt, b"look_at.txt");
+    replay(Kind::Area, b"area.txt");
+    replay(Kind::ObjectBound, b"object_bound.txt");
+    replay(Kind::WorldBound, b"world_bound.txt");
+    replay(Kind::CreateCurveShape, b"create_curve_shape.txt");
+    replay(Kind::Intersect, b"intersect.txt");
 }

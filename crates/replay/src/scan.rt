@@ -1,7 +1,10 @@
 // The lines of a file, compared as they end.
 use crate::compare::holds;
+use answers::Kind;
+use lines::Floats;
 use lines::Scan;
 use lines::Step;
+use lines::Words;
 
 // Where the scan is, and how many lines were compared and differ.
 pub struct Tally {
@@ -18,9 +21,9 @@ pub fn start() -> Tally {
     }
 }
 
-fn end_line(kind: u8, words: &[u32; 4096], n: usize, t: Tally) -> Tally {
+fn end_line(kind: Kind, words: &Words, floats: &Floats, n: usize, t: Tally) -> Tally {
     let lines = std::num::wrapping_add_u64(t.lines, 1);
-    if holds(kind, words, n) {
+    if holds(kind, words, floats, n) {
         return Tally {
             scan: lines::start(),
             lines,
@@ -35,22 +38,28 @@ fn end_line(kind: u8, words: &[u32; 4096], n: usize, t: Tally) -> Tally {
     }
 }
 
-fn step(kind: u8, b: u8, words: &mut [u32; 4096], t: Tally) -> Tally {
-    match lines::take_byte(b, words, t.scan) {
+fn step(kind: Kind, b: u8, words: &mut Words, floats: &mut Floats, t: Tally) -> Tally {
+    match lines::take_byte(b, words, floats, t.scan) {
         Step::More(scan) => Tally {
             scan,
             lines: t.lines,
             differ: t.differ,
         },
-        Step::End(n) => end_line(kind, words, n, t),
+        Step::End(n) => end_line(kind, words, floats, n, t),
     }
 }
 
-pub fn scan_bytes(kind: u8, bytes: &[u8], words: &mut [u32; 4096], t: Tally) -> Tally {
+pub fn scan_bytes(
+    kind: Kind,
+    bytes: &[u8],
+    words: &mut Words,
+    floats: &mut Floats,
+    t: Tally,
+) -> Tally {
     let mut at = t;
     let mut i = 0usize;
     while i < bytes.len() {
-        at = step(kind, bytes[i], words, at);
+        at = step(kind, bytes[i], words, floats, at);
         i += 1;
     }
     at

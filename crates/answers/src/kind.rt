@@ -1,0 +1,27 @@
+// The kinds of lines: each is an operation of the library.
+pub enum Kind {
+    Sqrt,
+    Narrow,
+    Cross,
+    Normalize,
+    CoordinateSystem,
+    Inverse,
+    TransformPoint,
+    TransformRayError,
+    TransformBounds,
+    SwapsHandedness,
+    LookAt,
+    Area,
+    ObjectBound,
+    WorldBound,
+    CreateCurveShape,
+    Intersect,
+}
+
+// Whether a kind's answer is a box, in which -0.0 equals 0.0.
+pub fn is_box(kind: Kind) -> bool {
+    match kind {
+        Kind::TransformBounds | Kind::ObjectBound | Kind::WorldBound => true,
+        _ => false,
+    }
+}

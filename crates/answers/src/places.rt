@@ -1,0 +1,112 @@
+// The places of a line's inputs (oracle/README.md): each part stands behind the one before.
+use crate::kind::Kind;
+use curve::FLOATS;
+use geometry::RAY_FLOATS;
+use lines::LINE_WORDS;
+use lines::Words;
+use matrix::MATRIX_FLOATS;
+
+// How many floats a point or a vector is.
+const POINT_FLOATS: usize = 3;
+
+// sqrt: a float.
+pub const X: usize = 0;
+
+const X_END: usize = X + 1;
+
+// narrow: the two halves of an f64.
+pub const HIGH: usize = 0;
+
+pub const LOW: usize = HIGH + 1;
+
+const LOW_END: usize = LOW + 1;
+
+// cross: two vectors; normalize, coordinate_system: one.
+pub const V1: usize = 0;
+
+pub const V2: usize = V1 + POINT_FLOATS;
+
+const V2_END: usize = V2 + POINT_FLOATS;
+
+// look_at: two points and a vector.
+pub const POS: usize = 0;
+
+pub const LOOK: usize = POS + POINT_FLOATS;
+
+pub const UP: usize = LOOK + POINT_FLOATS;
+
+const UP_END: usize = UP + POINT_FLOATS;
+
+// What has a matrix: it alone, or with a point, a ray or a box behind.
+pub const MATRIX: usize = 0;
+
+pub const POINT: usize = MATRIX + MATRIX_FLOATS;
+
+const POINT_END: usize = POINT + POINT_FLOATS;
+
+pub const MATRIX_RAY: usize = MATRIX + MATRIX_FLOATS;
+
+const MATRIX_RAY_END: usize = MATRIX_RAY + RAY_FLOATS;
+
+pub const P_MIN: usize = MATRIX + MATRIX_FLOATS;
+
+pub const P_MAX: usize = P_MIN + POINT_FLOATS;
+
+const P_MAX_END: usize = P_MAX + POINT_FLOATS;
+
+// What has a curve: it alone, with a matrix behind, or with all that a ray takes.
+pub const CURVE: usize = 0;
+
+pub const OBJECT_TO_WORLD: usize = CURVE + FLOATS;
+
+pub const WORLD_TO_OBJECT: usize = OBJECT_TO_WORLD + MATRIX_FLOATS;
+
+pub const REVERSE: usize = WORLD_TO_OBJECT + MATRIX_FLOATS;
+
+pub const RAY: usize = REVERSE + 1;
+
+const RAY_END: usize = RAY + RAY_FLOATS;
+
+// create_curve_shape: the parameters, the list's length, how many floats follow, and these.
+pub const DEGREE: usize = 0;
+
+pub const BASIS: usize = 1;
+
+pub const CURVE_TYPE: usize = 2;
+
+pub const WIDTH0: usize = 3;
+
+pub const WIDTH1: usize = 4;
+
+pub const SPLIT_DEPTH: usize = 5;
+
+pub const LIST_LEN: usize = 6;
+
+pub const POINTS_LEN: usize = 7;
+
+pub const POINTS: usize = 8;
+
+pub const POINTS_ROOM: usize = LINE_WORDS - POINTS;
+
+fn points_end(len: u32) -> usize {
+    POINTS + len as usize
+}
+
+// How many words of a line are inputs.
+pub fn input_words(kind: Kind, words: &Words) -> usize {
+    match kind {
+        Kind::Sqrt => X_END,
+        Kind::Narrow => LOW_END,
+        Kind::Cross => V2_END,
+        Kind::Normalize | Kind::CoordinateSystem => V2,
+        Kind::Inverse | Kind::SwapsHandedness => MATRIX_FLOATS,
+        Kind::TransformPoint => POINT_END,
+        Kind::TransformRayError => MATRIX_RAY_END,
+        Kind::TransformBounds => P_MAX_END,
+        Kind::LookAt => UP_END,
+        Kind::Area | Kind::ObjectBound => OBJECT_TO_WORLD,
+        Kind::WorldBound => WORLD_TO_OBJECT,
+        Kind::CreateCurveShape => points_end(words[POINTS_LEN]),
+        Kind::Intersect => RAY_END,
+    }
+}
