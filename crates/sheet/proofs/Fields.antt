@@ -7,8 +7,8 @@ use native.Mathlib.Nat.{le-refl}
 use native.Mathlib.Omega.{arith}
 use lib.Dec.{eqb, ltb, lit≤}
 use lib.ListN.{length}
-use Rattle.sheet.specs.Ascii.{ascii}
-use Rattle.sheet.specs.Bytes.{byteIs, standsAt, digitAt, isWord, wordAt}
+use Rattle.text.specs.Ascii.{ascii}
+use Rattle.text.specs.Bytes.{byteIs, standsAt, digitAt, isWord, wordAt}
 use Rattle.sheet.specs.Grammar.{lineFeed, decimalAt, decimalLine, wordLineAt, wordLine, eitherLine, typeLine, headLine}
 use Rattle.sheet.specs.Sheet.{advanced, fieldOf, startOf, headOf}
 use Rattle.sheet.specs.declared.line.Line.{Line}

@@ -3,11 +3,11 @@ ghost use mathlib.Core.Path.{_≡_};
 ghost use Prim.Native.Nat.{_+_, _≤_};
 ghost use lib.ListN.{length};
 ghost use Rattle.sheet.specs.Grammar.{decimalAt, decimalLine, wordLineAt, wordLine, eitherLine, typeLine, headLine};
-use crate::bytes::digit_at;
-use crate::bytes::is_byte;
-use crate::bytes::is_word;
-use crate::bytes::stands_at;
-use crate::bytes::word_at;
+use text::digit_at;
+use text::is_byte;
+use text::is_word;
+use text::stands_at;
+use text::word_at;
 
 // A line's value and the place behind its LF, or that it is wrong.
 pub enum Line {

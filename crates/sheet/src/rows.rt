@@ -3,12 +3,14 @@ ghost use mathlib.Core.Path.{_≡_};
 ghost use Prim.Native.Nat.{_+_, _*_, _≤_, _<_};
 ghost use lib.ListN.{length};
 ghost use Rattle.limits.specs.List.{over};
-ghost use Rattle.sheet.specs.Grammar.{separator, isFloats, isRow, floatAt, floatsAt};
-ghost use Rattle.sheet.specs.Sheet.{rowsFrom, floatsFrom};
-use crate::bytes::is_byte;
-use crate::bytes::is_word;
-use crate::bytes::stands_at;
-use crate::bytes::word_at;
+ghost use Rattle.sheet.specs.Grammar.{separator, isFloats, isRow, floatAt, floatsAt, rowsFrom, floatsFrom};
+use text::is_byte;
+use text::is_word;
+use text::stands_at;
+use text::word_at;
+
+// A float's digits, and what stands behind them.
+pub const FLOAT_SIZE: usize = 9;
 
 // What stands behind float i of n.
 fn separator_of(n: usize, i: usize) -> u8
@@ -24,7 +26,7 @@ fn is_floats(s: &[u8], at: usize, n: usize) -> bool
 {
     let mut i = 0usize;
     while i < n {
-        let from = at + i * 9;
+        let from = at + i * FLOAT_SIZE;
         let holds = is_word(s, from) & is_byte(s, from + 8, separator_of(n, i));
         if !holds {
             return false;
@@ -59,7 +61,7 @@ fn put_floats(s: &[u8], at: usize, n: usize, out: &mut [f32], to: usize)
 {
     let mut i = 0usize;
     while i < n {
-        out[to + i] = float_at(s, at + i * 9);
+        out[to + i] = float_at(s, at + i * FLOAT_SIZE);
         i += 1;
     }
 }
@@ -70,7 +72,7 @@ pub fn read_rows(s: &[u8], at: usize, key: &[u8], n: usize, most: usize, out: &m
     ensures { λ r. ⌜ r ≡ rowsFrom (now (s .entry)) at (now (key .entry)) n most ⌝ }
     ensures { λ r. ⌜ now (out .exit) ≡ over (now (out .entry)) 0 (floatsFrom (now (s .entry)) at (now (key .entry)) n r) ⌝ }
 {
-    let size = key.len() + n * 9;
+    let size = key.len() + n * FLOAT_SIZE;
     let mut j = 0usize;
     while j < most {
         let from = at + j * size;

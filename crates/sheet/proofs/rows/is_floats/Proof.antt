@@ -8,9 +8,9 @@ use native.Mathlib.Omega.{arith}
 use borrow.Author.Needs.{needs}
 use borrow.Author.Tests.{not-true, not-false}
 use denote.Ref.{now}
-use Rattle.sheet.specs.Bytes.{allBelow, byteIs, isWord}
+use Rattle.text.specs.Bytes.{allBelow, byteIs, isWord}
 use Rattle.sheet.specs.Grammar.{separator, isFloats}
-use Rattle.sheet.proofs.Below.{all-next, all-fails}
+use Rattle.text.proofs.Below.{all-next, all-fails}
 use Rattle.sheet.proofs.rows.is_floats.Statement.{statement}
 use Rattle.sheet.proofs.rows.is_floats.Tie as tie
 

@@ -12,10 +12,10 @@ use lib.Ieee.{Float}
 use lib.ListN.{length}
 use Rattle.limits.specs.List.{over, upTo}
 use Rattle.limits.proofs.Lists.{over-nil, over-next, over-length}
-use Rattle.sheet.specs.Bytes.{allBelow}
-use Rattle.sheet.specs.Grammar.{isRow, rowSize, floatsAt}
-use Rattle.sheet.specs.Sheet.{rowsFrom, floatsFrom}
-use Rattle.sheet.proofs.Below.{all-next, run-is}
+use Rattle.text.specs.Bytes.{allBelow}
+use Rattle.sheet.specs.Grammar.{isRow, rowSize, floatsAt, rowsFrom, floatsFrom}
+use Rattle.sheet.proofs.Runs.{run-is}
+use Rattle.text.proofs.Below.{all-next}
 use Rattle.sheet.proofs.Floats.{length-floats, small, next-in}
 use Rattle.sheet.proofs.rows.read_rows.Statement.{statement}
 use Rattle.sheet.proofs.rows.read_rows.Tie as tie
