@@ -11,7 +11,7 @@ use Rattle.create.specs.Create.{createdOf}
 use Rattle.create.specs.declared.create.Created.{Created}
 use Rattle.create.specs.declared.create.Created.the-variants as created
 use Rattle.limits.specs.List.{over}
-use Rattle.sheet.specs.Sheet.{headOf, mostPoints, mostRays, mostBytes, pointCount, raysAt, rayCount, isWhole, pointsOf, raysOf, noRays, refusedWith, linesRight, replyWithin, paramsIn, withCurves, sheetWithin, sheetOf}
+use Rattle.sheet.specs.Sheet.{headOf, mostRays, lastLine, mostBytes, pointCount, raysAt, rayCount, isWhole, pointsOf, raysOf, noRays, refusedWith, linesRight, replyWithin, paramsIn, withCurves, sheetWithin, sheetOf}
 use Rattle.sheet.specs.declared.head.Head.{Head}
 use Rattle.sheet.specs.declared.Sheet.{Sheet}
 use Rattle.sheet.proofs.Fields.{head-short}
@@ -32,5 +32,5 @@ reply-within l room =
     let h = headOf l in
     let c = h .cursor in
     let rays = rays-most l (raysAt l c) (pointCount l c) _ refl in
-    let wrong : linesRight l c + 1 ≤ 7 + mostPoints + mostRays + 1 = omega (arith, head-short l h refl .1, points-most l c _ refl, rays) in
+    let wrong : linesRight l c + 1 ≤ lastLine = omega (arith, head-short l h refl .1, points-most l c _ refl, rays) in
     within-either (ltb mostBytes (length l)) _ _ (lit≤ tt) (within-either (isWhole l c) _ _ (within-made h _ (over noRays 0 (raysOf l c)) (createdOf (pointsOf l c) (paramsIn h) room) rays) wrong)

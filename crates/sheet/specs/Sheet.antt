@@ -156,7 +156,11 @@ listOf l list = cond (ltb mostBytes (length l)) list (listWithin l list)
 
 -- ---- for callers
 
--- how large the numbers of a reply are: before a wrong line come at most the seven lines of the head, the points and the rays
+-- the last line that can be wrong: before it come the seven lines of the head, the points and the rays
+abbrev pub lastLine : ℕ
+lastLine = 7 + mostPoints + mostRays + 1
+
+-- how large the numbers of a reply are
 abbrev pub replyWithin : Reply → Type 0
 replyWithin (Accepted pieces reverse n) = n ≤ mostRays
-replyWithin (Refused number line) = line ≤ 7 + mostPoints + mostRays + 1
+replyWithin (Refused number line) = line ≤ lastLine
