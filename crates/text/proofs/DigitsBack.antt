@@ -69,8 +69,10 @@ word-back l at w r h b =
     let f = four-next l at (w / 65536) _ g in
     let x = four-back l at (w / 65536) _ g (omega (arith, b)) in
     let y = four-back l (at + 4) (w % 65536) r f (omega arith) in
-    let z = four-next l (at + 4) (w % 65536) r f in (
-      rw (x, y, lt-ltb (w / 65536) 65536 (omega (arith, b)), lt-ltb (w % 65536) 65536 (omega arith)),
-      rw (x, y) (omega (arith, b)),
+    let z = four-next l (at + 4) (w % 65536) r f in
+    let high = lt-ltb (w / 65536) 65536 (omega (arith, b)) in
+    let low = lt-ltb (w % 65536) 65536 (omega arith) in (
+      rw (x, y, high, low),
+      rw (x, y, high, low) (omega (arith, b)),
       rw (add-assoc at 4 4) at z,
     )

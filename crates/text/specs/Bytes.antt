@@ -1,5 +1,5 @@
 -- Bytes of a text, by place: words that stand there, and digits. Definitions only. A place past the end has no byte.
-use Prim.Native.Nat.{ℕ, zero, suc, _+_, _-_, _*_, _%_}
+use Prim.Native.Nat.{ℕ, zero, suc, _+_, _-_, _*_}
 use mathlib.Core.Bool.{Bool, true, cond, _&&_}
 use mathlib.Core.List.{List}
 use lib.Dec.{eqb, ltb, leb}
@@ -35,9 +35,10 @@ fourAt l at =
     let d = digitAt l (at + 3) in
     cond (ltb a 16 && ltb b 16 && ltb c 16 && ltb d 16) (((a * 16 + b) * 16 + c) * 16 + d) 65536
 
--- whether eight digits stand at a place, and the number that they then are
+-- whether eight digits stand at a place
 unfoldable pub isWord : List ℕ → ℕ → Bool
 isWord l at = ltb (fourAt l at) 65536 && ltb (fourAt l (at + 4)) 65536
 
+-- the number that they then are, and 0 where there are none
 unfoldable pub wordAt : List ℕ → ℕ → ℕ
-wordAt l at = fourAt l at % 65536 * 65536 + fourAt l (at + 4) % 65536
+wordAt l at = cond (isWord l at) (fourAt l at * 65536 + fourAt l (at + 4)) 0

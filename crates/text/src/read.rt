@@ -3,6 +3,7 @@ ghost use mathlib.Core.Path.{_≡_};
 ghost use Prim.Native.Nat.{_+_, _≤_};
 ghost use lib.ListN.{length};
 ghost use Rattle.text.specs.Bytes.{byteIs, standsAt, digitOf, digitAt, fourAt, isWord, wordAt};
+use crate::write::fit;
 
 pub fn is_byte(s: &[u8], i: usize, b: u8) -> bool
     ensures { λ r. ⌜ r ≡ byteIs (now (s .entry)) i b ⌝ }
@@ -12,14 +13,15 @@ pub fn is_byte(s: &[u8], i: usize, b: u8) -> bool
 
 // Whether the bytes of a word stand at a place.
 pub fn stands_at(s: &[u8], at: usize, word: &[u8]) -> bool
-    requires { ⌜ (at ≤ 1000000) × (length (now word) ≤ 20) ⌝ }
     ensures { λ r. ⌜ r ≡ standsAt (now (s .entry)) at (now (word .entry)) ⌝ }
 {
+    let mut i = at;
     let mut k = 0usize;
     while k < word.len() {
-        if !is_byte(s, at + k, word[k]) {
+        if !is_byte(s, i, word[k]) {
             return false;
         }
+        i += 1;
         k += 1;
     }
     true
@@ -50,7 +52,7 @@ pub fn digit_at(s: &[u8], i: usize) -> u32
 
 // Four digits, and 65,536 where one of them is none.
 fn four_at(s: &[u8], at: usize) -> u32
-    requires { ⌜ at ≤ 1000000 ⌝ }
+    requires { ⌜ at + 4 ≤ length (now s) ⌝ }
     ensures { λ r. ⌜ r ≡ fourAt (now (s .entry)) at ⌝ }
 {
     let a = digit_at(s, at);
@@ -66,20 +68,26 @@ fn four_at(s: &[u8], at: usize) -> u32
 
 // Whether eight digits stand at a place.
 pub fn is_word(s: &[u8], at: usize) -> bool
-    requires { ⌜ at ≤ 900000 ⌝ }
     ensures { λ r. ⌜ r ≡ isWord (now (s .entry)) at ⌝ }
 {
-    let high = four_at(s, at);
-    let low = four_at(s, at + 4);
-    (high < 65536) & (low < 65536)
+    if fit(s.len(), at, 8) < 8 {
+        false
+    } else {
+        let high = four_at(s, at);
+        let low = four_at(s, at + 4);
+        (high < 65536) & (low < 65536)
+    }
 }
 
 // The number that they then are.
 pub fn word_at(s: &[u8], at: usize) -> u32
-    requires { ⌜ at ≤ 900000 ⌝ }
     ensures { λ r. ⌜ r ≡ wordAt (now (s .entry)) at ⌝ }
 {
-    let high = four_at(s, at);
-    let low = four_at(s, at + 4);
-    high % 65536 * 65536 + low % 65536
+    if is_word(s, at) {
+        let high = four_at(s, at);
+        let low = four_at(s, at + 4);
+        high * 65536 + low
+    } else {
+        0
+    }
 }

@@ -6,8 +6,8 @@ ghost use Prim.Native.Nat.{_-_, _<_, min};
 ghost use Rattle.text.specs.Digits.{digitChar, decimalText, hexText, floatText};
 ghost use Rattle.text.specs.Put.{Put};
 
-// How many of n bytes there is room for.
-fn fit(size: usize, at: usize, n: usize) -> usize
+// How many of n bytes a slice of a size has from a place on.
+pub fn fit(size: usize, at: usize, n: usize) -> usize
     ensures { λ r. ⌜ r ≡ min (size - at) n ⌝ }
 {
     if size <= at {
