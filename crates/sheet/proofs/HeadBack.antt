@@ -16,11 +16,9 @@ use Rattle.text.proofs.DigitsBack.{digit-no-end, digit-back, digit-here, word-b
 use Rattle.text.proofs.Places.{Reads, reads-next, byte-at, byte-here, stands, stands-not}
 use Rattle.sheet.specs.Grammar.{decimalAt, decimalLine, wordLineAt, wordLine, eitherLine, typeLine, headLine}
 use Rattle.sheet.specs.Sheet.{fieldOf, startOf, headOf}
-use Rattle.sheet.specs.Written.{Text, IsText, IsWord, basisOf, typeOf, lineOf, headText, headWritten}
+use Rattle.sheet.specs.Written.{Text, IsText, IsWord, basisOf, typeOf, lineOf, headText, headAt, headWritten}
 use Rattle.sheet.specs.declared.line.Line.{Line}
 use Rattle.sheet.specs.declared.line.Line.the-variants.{Value}
-use Rattle.sheet.specs.declared.head.Cursor.{Cursor}
-use Rattle.sheet.specs.declared.head.Head.{Head}
 
 -- ---- its lines
 
@@ -109,22 +107,6 @@ type-line l at (suc (suc zero)) r h b = (at + 14, rw (stands l at (ascii "type=c
 type-line l at (suc (suc (suc n))) r h b = absurd (omega arith)
 
 -- ---- the whole of it
-
--- before line `number`, with none wrong
-abbrev pub cursorAt : ℕ → ℕ → Cursor
-cursorAt at number = record { at = at; lines = number; ok = true }
-
-abbrev headAt : Text → ℕ → Head
-headAt t at = record {
-  cursor = cursorAt at 7;
-  degree = t .degree;
-  basis = t .basis;
-  ty = t .ty;
-  width0 = t .width0;
-  width1 = t .width1;
-  splitdepth = t .splitdepth;
-  reverse = t .reverse;
-}
 
 -- the seven lines, each from where the one before it ends
 head-is :

@@ -17,10 +17,10 @@ use Rattle.text.specs.Digits.{digitChar, decimalIn, decimalText, fourText, hexT
 use Rattle.text.proofs.Places.{Reads, reads-start}
 use Rattle.sheet.specs.Grammar.{rowSize}
 use Rattle.sheet.specs.Sheet.{headOf, pointKey, rayKey, pointFloats, mostPoints, mostRays, mostBytes, raysFrom, raysRead, pointCount, raysAt, rayCount, isWhole, pointsOf, raysOf, noRays, paramsIn, withCurves, sheetWithin, sheetOf, listWithin, listOf}
-use Rattle.sheet.specs.Written.{Text, IsText, IsWord, IsRowOf, basisOf, typeOf, lineOf, headText, commas, rowsText, textOf, rowsFloats, headWritten}
+use Rattle.sheet.specs.Written.{Text, IsText, IsWord, IsRowOf, basisOf, typeOf, lineOf, headText, commas, rowsText, textOf, rowsFloats, headAt, headWritten}
 use Rattle.sheet.specs.declared.head.Cursor.{Cursor}
 use Rattle.sheet.specs.declared.head.Head.{Head}
-use Rattle.sheet.proofs.HeadBack.{cursorAt, head-back}
+use Rattle.sheet.proofs.HeadBack.{head-back}
 use Rattle.sheet.proofs.RowsBack.{rows-back, end-no-row, ray-no-point, rows-count}
 
 -- What is read of a text l with the numbers t: all that was written.
@@ -38,7 +38,7 @@ rows-whole :
     → IsText t
     → Reads l at (rowsText pointKey (t .points) ++ rowsText rayKey (t .rays))
     → (c : Cursor)
-    → c ≡ cursorAt at 7
+    → c ≡ headAt t at .cursor
     → (pointCount l c ≡ length (t .points)) × (rayCount l c ≡ length (t .rays)) × (isWhole l c ≡ true) × (pointsOf l c ≡ rowsFloats (t .points)) × (raysOf l c ≡ rowsFloats (t .rays))
 unfolding pointCount raysAt raysFrom rayCount isWhole pointsOf raysRead raysOf rowSize ascii
 rows-whole l at t i h c q =

@@ -17,6 +17,14 @@ lineFeed = 10
 abbrev pub comma : ℕ
 comma = 44
 
+-- far behind the end of any sheet: the code asks that a line starts before it, so that no place wraps
+abbrev pub far : ℕ
+far = 1000000
+
+-- no key is longer
+abbrev pub longestKey : ℕ
+longestKey = 20
+
 -- ---- a line of the head: its value, and the place behind its LF
 
 -- one or two decimal digits and LF

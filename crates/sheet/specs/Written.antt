@@ -96,10 +96,10 @@ unfoldable pub rowsFloats : List (List ℕ) → List Float
 rowsFloats [] = []
 rowsFloats (ws ∷ rows) = map (ofBits binary32) ws ++ rowsFloats rows
 
--- its head, and the place behind it
-abbrev pub headWritten : Text → Head
-headWritten t = record {
-  cursor = record { at = length (headText t); lines = 7; ok = true };
+-- its head, which ends at a place
+abbrev pub headAt : Text → ℕ → Head
+headAt t at = record {
+  cursor = record { at = at; lines = 7; ok = true };
   degree = t .degree;
   basis = t .basis;
   ty = t .ty;
@@ -108,3 +108,6 @@ headWritten t = record {
   splitdepth = t .splitdepth;
   reverse = t .reverse;
 }
+
+abbrev pub headWritten : Text → Head
+headWritten t = headAt t (length (headText t))

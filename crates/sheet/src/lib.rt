@@ -6,7 +6,7 @@ ghost use lib.ListN.{length};
 ghost use Rattle.geometry.specs.Ray.{rayFloats};
 ghost use Rattle.create.specs.Create.{createdOf, listAfter};
 ghost use Rattle.limits.specs.List.{over};
-ghost use Rattle.sheet.specs.Sheet.{pointCount, pointsOf, pointFloats, mostPoints, mostRays, raysFrom, raysRead, refusedWith, paramsIn, withCurves, sheetWithin, listWithin, sheetOf, listOf};
+ghost use Rattle.sheet.specs.Sheet.{pointCount, pointsOf, pointFloats, mostBytes, mostPoints, mostRays, raysFrom, raysRead, refusedWith, paramsIn, withCurves, sheetWithin, listWithin, sheetOf, listOf};
 
 mod head;
 mod line;
@@ -59,7 +59,7 @@ fn refused(number: u8, line: usize) -> Sheet
 
 // The points behind the head, and how many there are.
 fn read_points(s: &[u8], c: Cursor, out: &mut [f32]) -> usize
-    requires { ⌜ (c .at ≤ 1000) × (mostPoints * pointFloats ≤ length (now out)) ⌝ }
+    requires { ⌜ (c .at ≤ 2 * mostBytes) × (mostPoints * pointFloats ≤ length (now out)) ⌝ }
     ensures { λ r. ⌜ r ≡ pointCount (now (s .entry)) c ⌝ }
     ensures { λ _. ⌜ now (out .exit) ≡ over (now (out .entry)) 0 (pointsOf (now (s .entry)) c) ⌝ }
 {
@@ -72,7 +72,7 @@ fn read_points(s: &[u8], c: Cursor, out: &mut [f32]) -> usize
 
 // The rays behind so many points, and how many there are.
 fn read_rays(s: &[u8], at: usize, points: usize, out: &mut [f32]) -> usize
-    requires { ⌜ (at ≤ 100000) × (mostRays * rayFloats ≤ length (now out)) ⌝ }
+    requires { ⌜ (at ≤ 2 * mostBytes) × (mostRays * rayFloats ≤ length (now out)) ⌝ }
     ensures { λ r. ⌜ r ≡ raysFrom (now (s .entry)) at points ⌝ }
     ensures { λ _. ⌜ now (out .exit) ≡ over (now (out .entry)) 0 (raysRead (now (s .entry)) at points) ⌝ }
 {
