@@ -3,6 +3,5 @@
 mod explain;
 mod line;
 mod print;
-mod text;
 
 pub use print::print_sheet;

@@ -1,38 +1,39 @@
 // The lines of all rays and curves, in blocks.
-ghost use Prim.Native.Nat.{_+_, _≤_};
+ghost use Prim.Native.Nat.{_*_, _≤_};
 ghost use lib.ListN.{length};
+ghost use Rattle.curve.specs.Layout.{floats};
+ghost use Rattle.geometry.specs.Ray.{rayFloats};
+ghost use Rattle.report.specs.Printed.{answerText};
+ghost use Rattle.sheet.specs.Sheet.{mostRays, lastLine, replyWithin};
+ghost use Rattle.text.specs.Put.{Put};
 use crate::explain::explain;
 use crate::line::put_hit;
 use crate::line::put_miss;
 use crate::line::put_pieces;
 use crate::line::put_refused;
 use crate::line::put_refused_sheet;
-use geometry::Point3f;
+use curve::FLOATS;
+use geometry::RAY_FLOATS;
 use geometry::Ray;
-use geometry::Vector3f;
+use geometry::ray_from;
 use intersect::Intersection;
 use libc::STDOUT_FILENO;
 use matrix::Matrix4x4;
 use sheet::Reply;
 use sheet::Sheet;
 
-// Writes what is before the place where there is no room for a line behind, and answers the place.
-fn make_room(out: &[u8], at: usize) -> usize
-    requires { ⌜ 100 ≤ length (now out) ⌝ }
-    ensures { λ r. ⌜ r + 100 ≤ length (now (out .entry)) ⌝ }
-{
-    if at <= out.len() - 100 {
-        at
-    } else {
-        if at <= out.len() {
-            io::write_all(STDOUT_FILENO, &out[..at]);
-        }
-        0
+// 01: at most 1,024 pieces.
+const MOST_PIECES: usize = 1024;
+
+// Writes what stands before a place.
+fn print_before(out: &[u8], at: usize) {
+    if at <= out.len() {
+        io::write_all(STDOUT_FILENO, &out[..at]);
     }
 }
 
 fn put_answer(out: &mut [u8], at: usize, ray: u32, piece: u32, met: Intersection) -> usize
-    requires { ⌜ at + 100 ≤ length (now out) ⌝ }
+    ensures { λ r. ⌜ Put (now (out .entry)) at (answerText ray piece met) (now (out .exit)) r ⌝ }
 {
     match met {
         Intersection::Hit(h, looked) => { put_hit(out, at, ray, piece, looked, h.t_hit, h.u, h.v) }
@@ -41,25 +42,14 @@ fn put_answer(out: &mut [u8], at: usize, ray: u32, piece: u32, met: Intersection
     }
 }
 
-// The ray of eight floats.
-fn ray_of(f: &[f32]) -> Ray
-    requires { ⌜ 8 ≤ length (now f) ⌝ }
-{
-    let o = Point3f {
-        x: f[0],
-        y: f[1],
-        z: f[2],
-    };
-    let d = Vector3f {
-        x: f[3],
-        y: f[4],
-        z: f[5],
-    };
-    Ray {
-        o,
-        d,
-        t_max: f[6],
-        time: f[7],
+// An answer that reaches the buffer's end may be cut: what is before it is written, and it is put again.
+fn print_answer(out: &mut [u8], at: usize, ray: u32, piece: u32, met: Intersection) -> usize {
+    let end = put_answer(out, at, ray, piece, met);
+    if end < out.len() {
+        end
+    } else {
+        print_before(out, at);
+        put_answer(out, 0, ray, piece, met)
     }
 }
 
@@ -70,66 +60,73 @@ fn print_ray(
     number: u32,
     ray: Ray,
     reverse: bool,
+    pieces: u32,
     list: &[f32],
 ) -> usize
-    requires { ⌜ 100 ≤ length (now out) ⌝ }
+    requires { ⌜ pieces * floats ≤ length (now list) ⌝ }
 {
     let identity = Matrix4x4::default();
-    let pieces = list.len() / 16;
     let mut at = start;
-    let mut i = 0usize;
+    let mut i = 0u32;
     while i < pieces {
-        let curve = &list[i * 16..i * 16 + 16];
+        let from = i as usize * FLOATS;
+        let curve = &list[from..from + FLOATS];
         let met = intersect::intersect(curve, identity, identity, reverse, ray);
-        let from = make_room(out, at);
-        at = put_answer(out, from, number, (i % 65536) as u32, met);
+        at = print_answer(out, at, number, i, met);
         i += 1;
     }
     at
 }
 
-// All rays, eight floats each.
-fn print_rays(out: &mut [u8], start: usize, rays: &[f32], reverse: bool, list: &[f32]) -> usize
-    requires { ⌜ 100 ≤ length (now out) ⌝ }
+// The first n rays.
+fn print_rays(
+    out: &mut [u8],
+    start: usize,
+    rays: &[f32],
+    n: usize,
+    reverse: bool,
+    pieces: u32,
+    list: &[f32],
+) -> usize
+    requires { ⌜ (n ≤ mostRays) × (n * rayFloats ≤ length (now rays)) × (pieces * floats ≤ length (now list)) ⌝ }
 {
-    let count = rays.len() / 8;
     let mut at = start;
     let mut i = 0usize;
-    while i < count {
-        let ray = ray_of(&rays[i * 8..i * 8 + 8]);
-        at = print_ray(out, at, (i % 65536) as u32, ray, reverse, list);
+    while i < n {
+        let ray = ray_from(rays, i * RAY_FLOATS);
+        at = print_ray(out, at, i as u32, ray, reverse, pieces, list);
         i += 1;
     }
     at
 }
 
-fn print_accepted(pieces: u32, reverse: bool, rays: &[f32], list: &[f32]) {
+fn print_accepted(pieces: u32, reverse: bool, n: usize, rays: &[f32], list: &[f32])
+    requires { ⌜ (n ≤ mostRays) × (n * rayFloats ≤ length (now rays)) × (pieces * floats ≤ length (now list)) ⌝ }
+{
     let mut out = io::large_buffer();
     let start = put_pieces(&mut out, 0, pieces);
-    let end = print_rays(&mut out, start, rays, reverse, list);
-    if end <= 65536 {
-        io::write_all(STDOUT_FILENO, &out[..end]);
-    }
+    let end = print_rays(&mut out, start, rays, n, reverse, pieces, list);
+    print_before(&out, end);
 }
 
-fn print_refused(number: u8, line: usize) {
-    let mut out = [0u8; 100];
-    let end = put_refused_sheet(&mut out, 0, number, (line % 65536) as u32);
-    if end <= 100 {
-        io::write_all(STDOUT_FILENO, &out[..end]);
-    }
+fn print_refused(number: u8, line: usize)
+    requires { ⌜ line ≤ lastLine ⌝ }
+{
+    let mut out = io::large_buffer();
+    let end = put_refused_sheet(&mut out, 0, number, line as u32);
+    print_before(&out, end);
     explain(number, line);
 }
 
-fn print_reply(read: Sheet, list: &[f32]) {
+fn print_reply(read: Sheet, list: &[f32])
+    requires { ⌜ replyWithin (read .reply) ⌝ }
+{
     let rays = read.rays;
     let reply = read.reply;
     match reply {
         Reply::Accepted(pieces, reverse, n) => {
-            let curves = pieces as usize % 1025 * 16;
-            let floats = n % 65 * 8;
-            if curves <= list.len() {
-                print_accepted(pieces, reverse, &rays[..floats], &list[..curves]);
+            if pieces as usize * FLOATS <= list.len() {
+                print_accepted(pieces, reverse, n, &rays, list);
             }
         }
         Reply::Refused(number, line) => print_refused(number, line),
@@ -138,7 +135,7 @@ fn print_reply(read: Sheet, list: &[f32]) {
 
 // Prints the report of a sheet's bytes.
 pub fn print_sheet(bytes: &[u8]) {
-    let mut list = [0.0f32; 16384];
+    let mut list = [0.0f32; MOST_PIECES * FLOATS];
     let read = sheet::read_sheet(bytes, &mut list);
     print_reply(read, &list);
 }

@@ -7,9 +7,9 @@ use native.Mathlib.Nat.{le-refl}
 use native.Mathlib.Omega.{arith}
 use lib.Dec.{eqb, ltb, lit≤}
 use lib.ListN.{length}
-use Rattle.sheet.specs.Ascii.{ascii}
-use Rattle.sheet.specs.Bytes.{byteIs, standsAt, digitAt, isWord, wordAt}
-use Rattle.sheet.specs.Grammar.{lineFeed, decimalAt, decimalLine, wordLineAt, wordLine, eitherLine, typeLine, headLine}
+use Rattle.text.specs.Ascii.{ascii}
+use Rattle.text.specs.Bytes.{byteIs, standsAt, digitAt, isWord, wordAt}
+use Rattle.sheet.specs.Grammar.{lineFeed, longestKey, decimalAt, decimalLine, wordLineAt, wordLine, eitherLine, typeLine, headLine}
 use Rattle.sheet.specs.Sheet.{advanced, fieldOf, startOf, headOf}
 use Rattle.sheet.specs.declared.line.Line.{Line}
 use Rattle.sheet.specs.declared.line.Line.the-variants.{Value, Wrong}
@@ -51,17 +51,17 @@ decimal-by l at =
     let b = digitAt l (at + 1) in
     by-either (at + 3) (ltb a 10 && byteIs l (at + 1) lineFeed) (ltb a 10 && ltb b 10 && byteIs l (at + 2) lineFeed) a (a * 10 + b) (at + 2) (at + 3) (omega arith) (omega arith)
 
-decimal-line-by : (l : List ℕ) (at : ℕ) (key : List ℕ) → length key ≤ 20 → By (at + 30) (decimalLine l at key)
+decimal-line-by : (l : List ℕ) (at : ℕ) (key : List ℕ) → length key ≤ longestKey → By (at + 30) (decimalLine l at key)
 unfolding decimalLine
 decimal-line-by l at key h = by-cond _ (standsAt l at key) (decimalAt l (at + length key)) Wrong (weaker (at + length key + 3) (at + 30) _ (omega arith) (decimal-by l (at + length key))) (by-wrong _)
 
-word-line-by : (l : List ℕ) (at : ℕ) (key : List ℕ) → length key ≤ 20 → By (at + 30) (wordLine l at key)
+word-line-by : (l : List ℕ) (at : ℕ) (key : List ℕ) → length key ≤ longestKey → By (at + 30) (wordLine l at key)
 unfolding wordLine wordLineAt
 word-line-by l at key h =
     let from = at + length key in
     by-cond _ (standsAt l at key) (wordLineAt l from) Wrong (by-cond _ (isWord l from && byteIs l (from + 8) lineFeed) (Value (wordAt l from) (from + 9)) Wrong (by-value (at + 30) _ _ (omega arith)) (by-wrong _)) (by-wrong _)
 
-either-by : (l : List ℕ) (at : ℕ) (first second : List ℕ) → length first ≤ 20 → length second ≤ 20 → By (at + 30) (eitherLine l at first second)
+either-by : (l : List ℕ) (at : ℕ) (first second : List ℕ) → length first ≤ longestKey → length second ≤ longestKey → By (at + 30) (eitherLine l at first second)
 unfolding eitherLine
 either-by l at first second h g =
     by-either (at + 30) (standsAt l at first) (standsAt l at second) 0 1 (at + length first) (at + length second) (omega arith) (omega arith)

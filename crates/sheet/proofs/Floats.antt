@@ -6,18 +6,18 @@ use native.Mathlib.Nat.{not-suc-le-zero, le-of-suc-le-suc, le-refl, le-trans, le
 use native.Mathlib.Omega.{arith}
 use lib.Ieee.{nan}
 use lib.ListN.{length, getD}
-use Rattle.sheet.specs.Grammar.{floatAt, floatsAt}
+use Rattle.sheet.specs.Grammar.{floatSize, floatAt, floatsAt}
 
 pub length-floats : (l : List ℕ) (at n : ℕ) → length (floatsAt l at n) ≡ n
 unfolding floatsAt
 length-floats l at zero = refl
-length-floats l at (suc n) = ap suc (length-floats l (at + 9) n)
+length-floats l at (suc n) = ap suc (length-floats l (at + floatSize) n)
 
-pub floats-at : (l : List ℕ) (at n i : ℕ) → i < n → getD (floatsAt l at n) i nan ≡ floatAt l (at + i * 9)
+pub floats-at : (l : List ℕ) (at n i : ℕ) → i < n → getD (floatsAt l at n) i nan ≡ floatAt l (at + i * floatSize)
 unfolding floatsAt
 floats-at l at zero i h = absurd (not-suc-le-zero h)
-floats-at l at (suc n) zero h = ap (floatAt l) (let e : at ≡ at + 0 * 9 = omega arith in e)
-floats-at l at (suc n) (suc i) h = floats-at l (at + 9) n i (le-of-suc-le-suc h) ∙ ap (floatAt l) (let e : at + 9 + i * 9 ≡ at + suc i * 9 = omega arith in e)
+floats-at l at (suc n) zero h = ap (floatAt l) (let e : at ≡ at + 0 * floatSize = omega arith in e)
+floats-at l at (suc n) (suc i) h = floats-at l (at + floatSize) n i (le-of-suc-le-suc h) ∙ ap (floatAt l) (let e : at + floatSize + i * floatSize ≡ at + suc i * floatSize = omega arith in e)
 
 -- ---- how far rows reach
 

@@ -1,6 +1,8 @@
-pub mod Law
-mod Below
-mod Digits
+pub mod ReadBack
+pub mod ReplyWithin
 mod Fields
 mod Floats
+mod HeadBack
 mod Replies
+mod RowsBack
+mod Runs

@@ -10,11 +10,12 @@ use lib.Ieee.{Float, binary32, ofBits}
 use lib.ListN.{length, take}
 use lib.Seq.{take-at}
 use Rattle.create.specs.Create.{paramsOf, createdOf, listAfter}
+use Rattle.geometry.specs.Ray.{rayFloats}
 use Rattle.limits.specs.List.{over, upTo}
 use Rattle.create.specs.declared.create.Created.{Created}
 use Rattle.limits.proofs.Lists.{over-nil, over-length, length-upTo}
-use Rattle.sheet.specs.Bytes.{runBelow}
-use Rattle.sheet.specs.Sheet.{rowsFrom, floatsFrom, raysFrom, rayFloats, pointCount, pointsOf, raysAt, rayCount, raysOf, linesRight, isWhole, noRays, refusedWith, paramsIn, withCurves, headOf, sheetWithin, listWithin, sheetOf, listOf}
+use Rattle.sheet.specs.Grammar.{rowSize, runBelow, rowsFrom, floatsFrom}
+use Rattle.sheet.specs.Sheet.{pointKey, rayKey, pointFloats, mostPoints, mostRays, mostBytes, raysFrom, raysRead, pointCount, pointsOf, raysAt, rayCount, raysOf, linesRight, isWhole, noRays, refusedWith, paramsIn, withCurves, headOf, sheetWithin, listWithin, sheetOf, listOf}
 use Rattle.sheet.specs.declared.head.Cursor.{Cursor}
 use Rattle.sheet.specs.declared.head.Head.{Head}
 use Rattle.sheet.specs.declared.Sheet.{Sheet}
@@ -68,59 +69,59 @@ cond-most : (b : Bool) (x most : ℕ) → x ≤ most → cond b x 0 ≤ most
 cond-most true x most h = h
 cond-most false x most h = omega arith
 
-pub points-most : (l : List ℕ) (c : Cursor) (p : ℕ) → p ≡ pointCount l c → p ≤ 2048
+pub points-most : (l : List ℕ) (c : Cursor) (p : ℕ) → p ≡ pointCount l c → p ≤ mostPoints
 unfolding pointCount rowsFrom
-points-most l c p e = rw e (cond-most (c .ok) _ 2048 (run-most 2048 _))
+points-most l c p e = rw e (cond-most (c .ok) _ mostPoints (run-most mostPoints _))
 
-pub rays-most : (l : List ℕ) (at points n : ℕ) → n ≡ raysFrom l at points → n ≤ 64
+pub rays-most : (l : List ℕ) (at points n : ℕ) → n ≡ raysFrom l at points → n ≤ mostRays
 unfolding raysFrom rowsFrom
-rays-most l at points n e = rw e (cond-most (ltb 0 points) _ 64 (run-most 64 _))
+rays-most l at points n e = rw e (cond-most (ltb 0 points) _ mostRays (run-most mostRays _))
 
 -- ---- the points that are lent
 
-points-length : (l : List ℕ) (c : Cursor) → length (pointsOf l c) ≡ pointCount l c * 3
+points-length : (l : List ℕ) (c : Cursor) → length (pointsOf l c) ≡ pointCount l c * pointFloats
 unfolding pointsOf floatsFrom
-points-length l c = length-upTo _ 3 (pointCount l c) (λ j. length-floats l _ 3)
+points-length l c = length-upTo _ pointFloats (pointCount l c) (λ j. length-floats l _ pointFloats)
 
-pub points-lent : (l : List ℕ) (c : Cursor) (d : List Float) (p : ℕ) → p ≡ pointCount l c → take (p * 3) (over d 0 (pointsOf l c)) ≡ pointsOf l c
+pub points-lent : (l : List ℕ) (c : Cursor) (d : List Float) (p : ℕ) → p ≡ pointCount l c → take (p * pointFloats) (over d 0 (pointsOf l c)) ≡ pointsOf l c
 unfolding over
-points-lent l c d p e = take-at (pointsOf l c) _ (p * 3) (points-length l c ∙ ap (λ k. k * 3) (sym e))
+points-lent l c d p e = take-at (pointsOf l c) _ (p * pointFloats) (points-length l c ∙ ap (λ k. k * pointFloats) (sym e))
 
 -- they are within the array
-pub points-room : (l : List ℕ) (c : Cursor) (d out : List Float) (p : ℕ) → p ≡ pointCount l c → out ≡ over d 0 (pointsOf l c) → 6144 ≤ length d → p * 3 ≤ length out
+pub points-room : (l : List ℕ) (c : Cursor) (d out : List Float) (p : ℕ) → p ≡ pointCount l c → out ≡ over d 0 (pointsOf l c) → mostPoints * pointFloats ≤ length d → p * pointFloats ≤ length out
 unfolding pointsOf floatsFrom
 points-room l c d out p e q room =
     let m = points-most l c p e in
-    let long = over-length d 0 _ 3 (pointCount l c) (λ j. length-floats l _ 3) (omega (arith, e)) in
+    let long = over-length d 0 _ pointFloats (pointCount l c) (λ j. length-floats l _ pointFloats) (omega (arith, e)) in
     omega (arith, ap length q ∙ long)
 
 -- ---- a sheet that is not too long
 
 module _ (l : List ℕ) (h : Head) (p n : ℕ) (rays : List Float) (e : h ≡ headOf l) (f : p ≡ pointCount l (h .cursor))
-    (g : (n ≡ raysFrom l (h .cursor .at + p * 33) p) × (rays ≡ over noRays 0 (rayFloats l (h .cursor .at + p * 33) p))) where
+    (g : (n ≡ raysFrom l (h .cursor .at + p * rowSize pointKey pointFloats) p) × (rays ≡ over noRays 0 (raysRead l (h .cursor .at + p * rowSize pointKey pointFloats) p))) where
   -- the test
-  whole-is : isWhole l (headOf l .cursor) ≡ (ltb 0 p && eqb (h .cursor .at + p * 33 + n * 77) (length l))
+  whole-is : isWhole l (headOf l .cursor) ≡ (ltb 0 p && eqb (h .cursor .at + p * rowSize pointKey pointFloats + n * rowSize rayKey rayFloats) (length l))
   unfolding isWhole raysAt rayCount
   whole-is = rw (← e, ← f, ← g .0)
 
-  pub within-whole : (list list′ points : List Float) (room : ℕ) (r : Sheet) → (ltb 0 p && eqb (h .cursor .at + p * 33 + n * 77) (length l)) ≡ true → points ≡ pointsOf l (h .cursor)
+  pub within-whole : (list list′ points : List Float) (room : ℕ) (r : Sheet) → (ltb 0 p && eqb (h .cursor .at + p * rowSize pointKey pointFloats + n * rowSize rayKey rayFloats) (length l)) ≡ true → points ≡ pointsOf l (h .cursor)
       → (r ≡ withCurves h n rays (createdOf points (paramsIn h) room)) × (list′ ≡ listAfter points (paramsIn h) list)
       → (r ≡ sheetWithin l room) × (list′ ≡ listWithin l list)
   unfolding sheetWithin listWithin raysAt rayCount raysOf
   within-whole list list′ points room r t q k =
       (rw (whole-is, t, ← e, ← f, ← g .0, ← g .1, ← q) (k .0), rw (whole-is, t, ← e, ← q) (k .1))
 
-  pub within-wrong : (list : List Float) (room : ℕ) (r : Sheet) → (ltb 0 p && eqb (h .cursor .at + p * 33 + n * 77) (length l)) ≡ false
+  pub within-wrong : (list : List Float) (room : ℕ) (r : Sheet) → (ltb 0 p && eqb (h .cursor .at + p * rowSize pointKey pointFloats + n * rowSize rayKey rayFloats) (length l)) ≡ false
       → r ≡ refusedWith 17 (h .cursor .lines + p + n + 1) → (r ≡ sheetWithin l room) × (list ≡ listWithin l list)
   unfolding sheetWithin listWithin linesRight raysAt rayCount
   within-wrong list room r t k = (rw (whole-is, t, ← e, ← f, ← g .0) k, rw (whole-is, t))
 
 -- ---- any sheet
 
-pub too-long : (l : List ℕ) (list : List Float) (room : ℕ) (r : Sheet) → ltb 65536 (length l) ≡ true → r ≡ refusedWith 18 0 → (r ≡ sheetOf l room) × (list ≡ listOf l list)
+pub too-long : (l : List ℕ) (list : List Float) (room : ℕ) (r : Sheet) → ltb mostBytes (length l) ≡ true → r ≡ refusedWith 18 0 → (r ≡ sheetOf l room) × (list ≡ listOf l list)
 unfolding sheetOf listOf
 too-long l list room r t k = (rw t k, rw t)
 
-pub not-too-long : (l : List ℕ) (list list′ : List Float) (room : ℕ) (r : Sheet) → ltb 65536 (length l) ≡ false → (r ≡ sheetWithin l room) × (list′ ≡ listWithin l list) → (r ≡ sheetOf l room) × (list′ ≡ listOf l list)
+pub not-too-long : (l : List ℕ) (list list′ : List Float) (room : ℕ) (r : Sheet) → ltb mostBytes (length l) ≡ false → (r ≡ sheetWithin l room) × (list′ ≡ listWithin l list) → (r ≡ sheetOf l room) × (list′ ≡ listOf l list)
 unfolding sheetOf listOf
 not-too-long l list list′ room r t k = (rw t (k .0), rw t (k .1))

@@ -5,8 +5,9 @@ use mathlib.Core.List.{List, [], _∷_}
 use lib.Dec.{eqb, ltb}
 use lib.Ieee.{Float, binary32, ofBits}
 use lib.ListN.{length}
-use Rattle.sheet.specs.Ascii.{ascii}
-use Rattle.sheet.specs.Bytes.{allBelow, byteIs, standsAt, digitAt, isWord, wordAt}
+use Rattle.limits.specs.List.{upTo}
+use Rattle.text.specs.Ascii.{ascii}
+use Rattle.text.specs.Bytes.{allBelow, byteIs, standsAt, digitAt, isWord, wordAt}
 use Rattle.sheet.specs.declared.line.Line.{Line}
 use Rattle.sheet.specs.declared.line.Line.the-variants.{Value, Wrong}
 
@@ -15,6 +16,14 @@ lineFeed = 10
 
 abbrev pub comma : ℕ
 comma = 44
+
+-- far behind the end of any sheet: the code asks that a line starts before it, so that no place wraps
+abbrev pub far : ℕ
+far = 1000000
+
+-- no key is longer
+abbrev pub longestKey : ℕ
+longestKey = 20
 
 -- ---- a line of the head: its value, and the place behind its LF
 
@@ -61,19 +70,23 @@ headLine l number at =
 
 -- ---- a row of floats: a key, and n times eight hexadecimal digits, with commas between and LF at the end
 
+-- a float's digits, and what stands behind them
+abbrev pub floatSize : ℕ
+floatSize = 9
+
 -- what stands behind float i of n
 unfoldable pub separator : ℕ → ℕ → ℕ
 separator n i = cond (eqb (i + 1) n) lineFeed comma
 
 unfoldable pub isFloats : List ℕ → ℕ → ℕ → Bool
-isFloats l at n = allBelow n (λ i. isWord l (at + i * 9) && byteIs l (at + i * 9 + 8) (separator n i))
+isFloats l at n = allBelow n (λ i. isWord l (at + i * floatSize) && byteIs l (at + i * floatSize + 8) (separator n i))
 
 unfoldable pub isRow : List ℕ → ℕ → List ℕ → ℕ → Bool
 isRow l at key n = standsAt l at key && isFloats l (at + length key) n
 
 -- how many bytes a row has
 unfoldable pub rowSize : List ℕ → ℕ → ℕ
-rowSize key n = length key + n * 9
+rowSize key n = length key + n * floatSize
 
 -- the float that stands at a place
 unfoldable pub floatAt : List ℕ → ℕ → Float
@@ -82,4 +95,19 @@ floatAt l at = ofBits binary32 (wordAt l at)
 -- the n floats whose digits start at a place, with one byte between
 unfoldable pub floatsAt : List ℕ → ℕ → ℕ → List Float
 floatsAt l at zero = []
-floatsAt l at (suc n) = floatAt l at ∷ floatsAt l (at + 9) n
+floatsAt l at (suc n) = floatAt l at ∷ floatsAt l (at + floatSize) n
+
+-- ---- rows, one behind the other
+
+-- how many numbers from 0 on pass P one after the other, at most n
+unfoldable pub runBelow : ℕ → (ℕ → Bool) → ℕ
+runBelow zero P = 0
+runBelow (suc n) P = cond (eqb (runBelow n P) n && P n) (suc n) (runBelow n P)
+
+-- how many rows follow each other from a place on, at most so many
+unfoldable pub rowsFrom : List ℕ → ℕ → List ℕ → ℕ → ℕ → ℕ
+rowsFrom l at key n most = runBelow most (λ j. isRow l (at + j * rowSize key n) key n)
+
+-- the floats of the first m of them
+unfoldable pub floatsFrom : List ℕ → ℕ → List ℕ → ℕ → ℕ → List Float
+floatsFrom l at key n m = upTo (λ j. floatsAt l (at + j * rowSize key n + length key) n) m

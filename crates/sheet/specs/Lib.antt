@@ -1,5 +1,3 @@
-pub mod Ascii
-pub mod Bytes
 pub mod Grammar
 pub mod Sheet
 pub mod Written

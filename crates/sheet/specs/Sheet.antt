@@ -7,13 +7,13 @@ use lib.Ieee.{Float, binary32, ofBits}
 use lib.ListN.{length, replicate}
 use Rattle.float.specs.Arith.{0f}
 use Rattle.create.specs.Create.{paramsOf, createdOf, listAfter}
-use Rattle.limits.specs.List.{over, upTo}
+use Rattle.geometry.specs.Ray.{rayFloats}
+use Rattle.limits.specs.List.{over}
 use Rattle.create.specs.declared.create.Params.{Params}
 use Rattle.create.specs.declared.create.Created.{Created}
 use Rattle.create.specs.declared.create.Created.the-variants as created
-use Rattle.sheet.specs.Ascii.{ascii}
-use Rattle.sheet.specs.Bytes.{runBelow}
-use Rattle.sheet.specs.Grammar.{headLine, isRow, rowSize, floatsAt}
+use Rattle.text.specs.Ascii.{ascii}
+use Rattle.sheet.specs.Grammar.{headLine, rowSize, rowsFrom, floatsFrom}
 use Rattle.sheet.specs.declared.line.Line.{Line}
 use Rattle.sheet.specs.declared.line.Line.the-variants.{Value, Wrong}
 use Rattle.sheet.specs.declared.head.Cursor.{Cursor}
@@ -60,45 +60,48 @@ headOf l =
 
 -- ---- points and rays
 
--- how many rows follow each other from a place on, at most so many
-unfoldable pub rowsFrom : List ℕ → ℕ → List ℕ → ℕ → ℕ → ℕ
-rowsFrom l at key n most = runBelow most (λ j. isRow l (at + j * rowSize key n) key n)
+abbrev pub pointKey : List ℕ
+pointKey = ascii "point="
 
--- the floats of the first m of them
-unfoldable pub floatsFrom : List ℕ → ℕ → List ℕ → ℕ → ℕ → List Float
-floatsFrom l at key n m = upTo (λ j. floatsAt l (at + j * rowSize key n + length key) n) m
+-- 01: beams
+abbrev pub rayKey : List ℕ
+rayKey = ascii "beam="
 
--- how many floats there is room for: 65,536 bytes hold fewer than 2,048 points, and there are at most 64 rays
+-- how many floats a point is
+abbrev pub pointFloats : ℕ
+pointFloats = 3
+
+-- more points than 65,536 bytes hold, and as many rays as a sheet may have
 abbrev pub mostPoints : ℕ
 mostPoints = 2048
 
 abbrev pub mostRays : ℕ
 mostRays = 64
 
--- the rays (01: beams) that start at a place behind so many points, and there is none where there is no point
+-- the rays that start at a place behind so many points, and there is none where there is no point
 unfoldable pub raysFrom : List ℕ → ℕ → ℕ → ℕ
-raysFrom l at points = cond (ltb 0 points) (rowsFrom l at (ascii "beam=") 8 mostRays) 0
+raysFrom l at points = cond (ltb 0 points) (rowsFrom l at rayKey rayFloats mostRays) 0
 
-unfoldable pub rayFloats : List ℕ → ℕ → ℕ → List Float
-rayFloats l at points = floatsFrom l at (ascii "beam=") 8 (raysFrom l at points)
+unfoldable pub raysRead : List ℕ → ℕ → ℕ → List Float
+raysRead l at points = floatsFrom l at rayKey rayFloats (raysFrom l at points)
 
 module _ (l : List ℕ) (c : Cursor) where
   -- the points start behind the head, and there is none where the head is wrong
   unfoldable pub pointCount : ℕ
-  pointCount = cond (c .ok) (rowsFrom l (c .at) (ascii "point=") 3 mostPoints) 0
+  pointCount = cond (c .ok) (rowsFrom l (c .at) pointKey pointFloats mostPoints) 0
 
   unfoldable pub pointsOf : List Float
-  pointsOf = floatsFrom l (c .at) (ascii "point=") 3 pointCount
+  pointsOf = floatsFrom l (c .at) pointKey pointFloats pointCount
 
   -- the rays start behind the points
   unfoldable pub raysAt : ℕ
-  raysAt = c .at + pointCount * 33
+  raysAt = c .at + pointCount * rowSize pointKey pointFloats
 
   unfoldable pub rayCount : ℕ
   rayCount = raysFrom l raysAt pointCount
 
   unfoldable pub raysOf : List Float
-  raysOf = rayFloats l raysAt pointCount
+  raysOf = raysRead l raysAt pointCount
 
   -- how many lines are right, from the first on
   unfoldable pub linesRight : ℕ
@@ -106,13 +109,13 @@ module _ (l : List ℕ) (c : Cursor) where
 
   -- nothing is missing, and nothing follows
   unfoldable pub isWhole : Bool
-  isWhole = ltb 0 pointCount && eqb (raysAt + rayCount * 77) (length l)
+  isWhole = ltb 0 pointCount && eqb (raysAt + rayCount * rowSize rayKey rayFloats) (length l)
 
 -- ---- the reply
 
--- 512 floats, all 0
+-- room for the rays, all 0
 abbrev pub noRays : List Float
-noRays = replicate 512 0f
+noRays = replicate (mostRays * rayFloats) 0f
 
 unfoldable pub refusedWith : ℕ → ℕ → Sheet
 refusedWith number line = record { reply = Refused number line; rays = noRays }
@@ -139,17 +142,25 @@ listWithin l list =
     let c = h .cursor in
     cond (isWhole l c) (listAfter (pointsOf l c) (paramsIn h) list) list
 
--- the whole answer: first 18, for more than 65,536 bytes
+-- 01: 65,536 bytes
+abbrev pub mostBytes : ℕ
+mostBytes = 65536
+
+-- the whole answer: first 18, for more bytes
 unfoldable pub sheetOf : List ℕ → ℕ → Sheet
-sheetOf l room = cond (ltb 65536 (length l)) (refusedWith 18 0) (sheetWithin l room)
+sheetOf l room = cond (ltb mostBytes (length l)) (refusedWith 18 0) (sheetWithin l room)
 
 -- the list afterwards
 unfoldable pub listOf : List ℕ → List Float → List Float
-listOf l list = cond (ltb 65536 (length l)) list (listWithin l list)
+listOf l list = cond (ltb mostBytes (length l)) list (listWithin l list)
 
 -- ---- for callers
 
--- how large the numbers of a reply are: at most 64 rays, and at most 7 lines of the head, 2,048 points and 64 rays before a wrong line
+-- the last line that can be wrong: before it come the seven lines of the head, the points and the rays
+abbrev pub lastLine : ℕ
+lastLine = 7 + mostPoints + mostRays + 1
+
+-- how large the numbers of a reply are
 abbrev pub replyWithin : Reply → Type 0
 replyWithin (Accepted pieces reverse n) = n ≤ mostRays
-replyWithin (Refused number line) = line ≤ 2120
+replyWithin (Refused number line) = line ≤ lastLine

@@ -1,12 +1,15 @@
 -- The text of a belt sheet as one who writes it down puts it: its numbers, and the bytes for them. Definitions only.
-use Prim.Native.Nat.{ℕ, _+_, _/_, _%_, _^_, _<_, _≤_}
+use Prim.Native.Nat.{ℕ, _^_, _<_, _≤_}
 use mathlib.Core.Bool.{true, cond}
 use mathlib.Core.List.{List, [], _∷_, _++_, map}
 use mathlib.Core.Path.{_≡_}
-use lib.Dec.{eqb, ltb}
+use lib.Dec.{eqb}
 use lib.Ieee.{Float, binary32, ofBits}
 use lib.ListN.{length}
-use Rattle.sheet.specs.Ascii.{ascii}
+use Rattle.text.specs.Ascii.{ascii}
+use Rattle.text.specs.Digits.{decimalText, hexText}
+use Rattle.geometry.specs.Ray.{rayFloats}
+use Rattle.sheet.specs.Sheet.{pointKey, rayKey, pointFloats, mostPoints, mostRays}
 use Rattle.sheet.specs.declared.head.Head.{Head}
 
 -- ---- what is written
@@ -45,27 +48,10 @@ pub record IsText (t : Text) : Type 0 where
   pub splitdepth : t .splitdepth < 100
   pub reverse : t .reverse ≤ 1
   pub some-point : 0 < length (t .points)
-  pub most-points : length (t .points) ≤ 2048
-  pub most-rays : length (t .rays) ≤ 64
-  pub points : AllOf (IsRowOf 3) (t .points)
-  pub rays : AllOf (IsRowOf 8) (t .rays)
-
--- ---- numbers
-
--- 0 to 9, a to f
-unfoldable pub digitChar : ℕ → ℕ
-digitChar d = cond (ltb d 10) (48 + d) (87 + d)
-
--- one digit, and two from 10 on
-unfoldable pub decimalOf : ℕ → List ℕ
-decimalOf n = cond (ltb n 10) (digitChar n ∷ []) (digitChar (n / 10) ∷ digitChar (n % 10) ∷ [])
-
--- four digits, and the eight of a word
-unfoldable pub fourOf : ℕ → List ℕ
-fourOf h = digitChar (h / 4096 % 16) ∷ digitChar (h / 256 % 16) ∷ digitChar (h / 16 % 16) ∷ digitChar (h % 16) ∷ []
-
-unfoldable pub hexOf : ℕ → List ℕ
-hexOf w = fourOf (w / 65536) ++ fourOf (w % 65536)
+  pub most-points : length (t .points) ≤ mostPoints
+  pub most-rays : length (t .rays) ≤ mostRays
+  pub points : AllOf (IsRowOf pointFloats) (t .points)
+  pub rays : AllOf (IsRowOf rayFloats) (t .rays)
 
 -- ---- lines
 
@@ -81,19 +67,19 @@ lineOf key value = key ++ value ++ ascii "\n"
 -- the seven lines of the head
 unfoldable pub headText : Text → List ℕ
 headText t =
-    lineOf (ascii "degree=") (decimalOf (t .degree))
+    lineOf (ascii "degree=") (decimalText (t .degree))
     ++ lineOf (ascii "basis=") (basisOf (t .basis))
     ++ lineOf (ascii "type=") (typeOf (t .ty))
-    ++ lineOf (ascii "width0=") (hexOf (t .width0))
-    ++ lineOf (ascii "width1=") (hexOf (t .width1))
-    ++ lineOf (ascii "splitdepth=") (decimalOf (t .splitdepth))
-    ++ lineOf (ascii "reverse=") (decimalOf (t .reverse))
+    ++ lineOf (ascii "width0=") (hexText (t .width0))
+    ++ lineOf (ascii "width1=") (hexText (t .width1))
+    ++ lineOf (ascii "splitdepth=") (decimalText (t .splitdepth))
+    ++ lineOf (ascii "reverse=") (decimalText (t .reverse))
 
 -- words with commas between
 unfoldable pub commas : List ℕ → List ℕ
 commas [] = []
-commas (w ∷ []) = hexOf w
-commas (w ∷ v ∷ ws) = hexOf w ++ ascii "," ++ commas (v ∷ ws)
+commas (w ∷ []) = hexText w
+commas (w ∷ v ∷ ws) = hexText w ++ ascii "," ++ commas (v ∷ ws)
 
 -- a line for each row
 unfoldable pub rowsText : List ℕ → List (List ℕ) → List ℕ
@@ -101,19 +87,19 @@ rowsText key [] = []
 rowsText key (ws ∷ rows) = lineOf key (commas ws) ++ rowsText key rows
 
 unfoldable pub textOf : Text → List ℕ
-textOf t = headText t ++ rowsText (ascii "point=") (t .points) ++ rowsText (ascii "beam=") (t .rays)
+textOf t = headText t ++ rowsText pointKey (t .points) ++ rowsText rayKey (t .rays)
 
 -- ---- what it says
 
 -- the floats of all rows, in order
-unfoldable pub floatsOf : List (List ℕ) → List Float
-floatsOf [] = []
-floatsOf (ws ∷ rows) = map (ofBits binary32) ws ++ floatsOf rows
+unfoldable pub rowsFloats : List (List ℕ) → List Float
+rowsFloats [] = []
+rowsFloats (ws ∷ rows) = map (ofBits binary32) ws ++ rowsFloats rows
 
--- its head, and the place behind it
-abbrev pub headWritten : Text → Head
-headWritten t = record {
-  cursor = record { at = length (headText t); lines = 7; ok = true };
+-- its head, which ends at a place
+abbrev pub headAt : Text → ℕ → Head
+headAt t at = record {
+  cursor = record { at = at; lines = 7; ok = true };
   degree = t .degree;
   basis = t .basis;
   ty = t .ty;
@@ -122,3 +108,6 @@ headWritten t = record {
   splitdepth = t .splitdepth;
   reverse = t .reverse;
 }
+
+abbrev pub headWritten : Text → Head
+headWritten t = headAt t (length (headText t))

@@ -1,6 +1,7 @@
 // A sheet's head: seven lines in a fixed order.
 ghost use mathlib.Core.Path.{_≡_};
 ghost use Prim.Native.Nat.{_≤_};
+ghost use Rattle.sheet.specs.Grammar.{far};
 ghost use Rattle.sheet.specs.Sheet.{advanced, fieldOf, startOf, headOf};
 use crate::line::Line;
 use crate::reader::line_from;
@@ -54,7 +55,7 @@ fn advance(c: Cursor, number: u8, line: Line) -> Field
 
 // A line of the head, unless one before it was wrong.
 fn take_field(s: &[u8], number: u8, c: Cursor) -> Field
-    requires { ⌜ c .at ≤ 1000 ⌝ }
+    requires { ⌜ c .at ≤ far ⌝ }
     ensures { λ r. ⌜ r ≡ fieldOf (now (s .entry)) number c ⌝ }
 {
     if c.ok {

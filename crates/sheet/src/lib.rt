@@ -1,23 +1,39 @@
 // The belt sheet (01: Sheet): its reader. A sheet is a head of seven lines, then one or more points, then
 // up to 64 rays; its curves go into a list that is lent.
 ghost use mathlib.Core.Path.{_≡_};
-ghost use Prim.Native.Nat.{_≤_};
+ghost use Prim.Native.Nat.{_*_, _≤_};
 ghost use lib.ListN.{length};
+ghost use Rattle.geometry.specs.Ray.{rayFloats};
 ghost use Rattle.create.specs.Create.{createdOf, listAfter};
 ghost use Rattle.limits.specs.List.{over};
-ghost use Rattle.sheet.specs.Sheet.{pointCount, pointsOf, raysFrom, rayFloats, refusedWith, paramsIn, withCurves, sheetWithin, listWithin, sheetOf, listOf};
+ghost use Rattle.sheet.specs.Sheet.{pointCount, pointsOf, pointFloats, mostBytes, mostPoints, mostRays, raysFrom, raysRead, refusedWith, paramsIn, withCurves, sheetWithin, listWithin, sheetOf, listOf};
 
-mod bytes;
 mod head;
 mod line;
 mod reader;
 mod rows;
 
 use create::Created;
+use geometry::RAY_FLOATS;
 use head::Cursor;
 use head::Head;
 use head::read_head;
+use rows::FLOAT_SIZE;
 use rows::read_rows;
+
+const MOST_BYTES: usize = 65536;
+
+const POINT_FLOATS: usize = 3;
+
+// More points than so many bytes hold, and as many rays as a sheet may have.
+const MOST_POINTS: usize = 2048;
+
+pub const MOST_RAYS: usize = 64;
+
+// How many bytes a point's and a ray's line has: the key, the floats.
+const POINT_SIZE: usize = 6 + POINT_FLOATS * FLOAT_SIZE;
+
+const RAY_SIZE: usize = 5 + RAY_FLOATS * FLOAT_SIZE;
 
 // What a sheet answers: the number of curves, the reverse flag and the number of rays; or a refusal's
 // number with the wrong line, which is 0 with every number but 17.
@@ -29,7 +45,7 @@ pub enum Reply {
 // The reply, and eight floats for each ray, the rest 0.
 pub struct Sheet {
     pub reply: Reply,
-    pub rays: [f32; 512],
+    pub rays: [f32; MOST_RAYS * RAY_FLOATS],
 }
 
 fn refused(number: u8, line: usize) -> Sheet
@@ -37,18 +53,18 @@ fn refused(number: u8, line: usize) -> Sheet
 {
     Sheet {
         reply: Reply::Refused(number, line),
-        rays: [0.0f32; 512],
+        rays: [0.0f32; MOST_RAYS * RAY_FLOATS],
     }
 }
 
 // The points behind the head, and how many there are.
 fn read_points(s: &[u8], c: Cursor, out: &mut [f32]) -> usize
-    requires { ⌜ (c .at ≤ 1000) × (6144 ≤ length (now out)) ⌝ }
+    requires { ⌜ (c .at ≤ 2 * mostBytes) × (mostPoints * pointFloats ≤ length (now out)) ⌝ }
     ensures { λ r. ⌜ r ≡ pointCount (now (s .entry)) c ⌝ }
     ensures { λ _. ⌜ now (out .exit) ≡ over (now (out .entry)) 0 (pointsOf (now (s .entry)) c) ⌝ }
 {
     if c.ok {
-        read_rows(s, c.at, b"point=", 3, 2048, out)
+        read_rows(s, c.at, b"point=", POINT_FLOATS, MOST_POINTS, out)
     } else {
         0
     }
@@ -56,19 +72,25 @@ fn read_points(s: &[u8], c: Cursor, out: &mut [f32]) -> usize
 
 // The rays behind so many points, and how many there are.
 fn read_rays(s: &[u8], at: usize, points: usize, out: &mut [f32]) -> usize
-    requires { ⌜ (at ≤ 100000) × (512 ≤ length (now out)) ⌝ }
+    requires { ⌜ (at ≤ 2 * mostBytes) × (mostRays * rayFloats ≤ length (now out)) ⌝ }
     ensures { λ r. ⌜ r ≡ raysFrom (now (s .entry)) at points ⌝ }
-    ensures { λ _. ⌜ now (out .exit) ≡ over (now (out .entry)) 0 (rayFloats (now (s .entry)) at points) ⌝ }
+    ensures { λ _. ⌜ now (out .exit) ≡ over (now (out .entry)) 0 (raysRead (now (s .entry)) at points) ⌝ }
 {
     if 0 < points {
-        read_rows(s, at, b"beam=", 8, 64, out)
+        read_rows(s, at, b"beam=", RAY_FLOATS, MOST_RAYS, out)
     } else {
         0
     }
 }
 
 // The curves of a whole sheet.
-fn create(h: Head, points: &[f32], list: &mut [f32], n: usize, rays: [f32; 512]) -> Sheet
+fn create(
+    h: Head,
+    points: &[f32],
+    list: &mut [f32],
+    n: usize,
+    rays: [f32; MOST_RAYS * RAY_FLOATS],
+) -> Sheet
     ensures { λ r. ⌜ r ≡ withCurves h n rays (createdOf (now (points .entry)) (paramsIn h) (length (now (list .entry)))) ⌝ }
     ensures { λ _. ⌜ now (list .exit) ≡ listAfter (now (points .entry)) (paramsIn h) (now (list .entry)) ⌝ }
 {
@@ -99,13 +121,13 @@ fn read_within(s: &[u8], list: &mut [f32]) -> Sheet
     ensures { λ _. ⌜ now (list .exit) ≡ listWithin (now (s .entry)) (now (list .entry)) ⌝ }
 {
     let head = read_head(s);
-    let mut points = [0.0f32; 6144];
-    let mut rays = [0.0f32; 512];
+    let mut points = [0.0f32; MOST_POINTS * POINT_FLOATS];
+    let mut rays = [0.0f32; MOST_RAYS * RAY_FLOATS];
     let p = read_points(s, head.cursor, &mut points);
-    let at = head.cursor.at + p * 33;
+    let at = head.cursor.at + p * POINT_SIZE;
     let n = read_rays(s, at, p, &mut rays);
-    if (0 < p) & (at + n * 77 == s.len()) {
-        create(head, &points[..p * 3], list, n, rays)
+    if (0 < p) & (at + n * RAY_SIZE == s.len()) {
+        create(head, &points[..p * POINT_FLOATS], list, n, rays)
     } else {
         refused(17, head.cursor.lines + p + n + 1)
     }
@@ -116,7 +138,7 @@ pub fn read_sheet(bytes: &[u8], list: &mut [f32]) -> Sheet
     ensures { λ r. ⌜ r ≡ sheetOf (now (bytes .entry)) (length (now (list .entry))) ⌝ }
     ensures { λ _. ⌜ now (list .exit) ≡ listOf (now (bytes .entry)) (now (list .entry)) ⌝ }
 {
-    if 65536 < bytes.len() {
+    if MOST_BYTES < bytes.len() {
         refused(18, 0)
     } else {
         read_within(bytes, list)

@@ -2,12 +2,12 @@
 ghost use mathlib.Core.Path.{_≡_};
 ghost use Prim.Native.Nat.{_+_, _≤_};
 ghost use lib.ListN.{length};
-ghost use Rattle.sheet.specs.Grammar.{decimalAt, decimalLine, wordLineAt, wordLine, eitherLine, typeLine, headLine};
-use crate::bytes::digit_at;
-use crate::bytes::is_byte;
-use crate::bytes::is_word;
-use crate::bytes::stands_at;
-use crate::bytes::word_at;
+ghost use Rattle.sheet.specs.Grammar.{far, longestKey, decimalAt, decimalLine, wordLineAt, wordLine, eitherLine, typeLine, headLine};
+use text::digit_at;
+use text::is_byte;
+use text::is_word;
+use text::stands_at;
+use text::word_at;
 
 // A line's value and the place behind its LF, or that it is wrong.
 pub enum Line {
@@ -17,7 +17,7 @@ pub enum Line {
 
 // One or two decimal digits and LF.
 fn decimal_at(s: &[u8], at: usize) -> Line
-    requires { ⌜ at ≤ 900000 ⌝ }
+    requires { ⌜ at ≤ far + longestKey ⌝ }
     ensures { λ r. ⌜ r ≡ decimalAt (now (s .entry)) at ⌝ }
 {
     let a = digit_at(s, at);
@@ -35,7 +35,7 @@ fn decimal_at(s: &[u8], at: usize) -> Line
 
 // A key, a decimal number and LF.
 fn decimal_line(s: &[u8], at: usize, key: &[u8]) -> Line
-    requires { ⌜ (at ≤ 800000) × (length (now key) ≤ 20) ⌝ }
+    requires { ⌜ (at ≤ far) × (length (now key) ≤ longestKey) ⌝ }
     ensures { λ r. ⌜ r ≡ decimalLine (now (s .entry)) at (now (key .entry)) ⌝ }
 {
     if stands_at(s, at, key) {
@@ -47,7 +47,7 @@ fn decimal_line(s: &[u8], at: usize, key: &[u8]) -> Line
 
 // Eight hexadecimal digits and LF.
 fn word_line_at(s: &[u8], at: usize) -> Line
-    requires { ⌜ at ≤ 900000 ⌝ }
+    requires { ⌜ at ≤ far + longestKey ⌝ }
     ensures { λ r. ⌜ r ≡ wordLineAt (now (s .entry)) at ⌝ }
 {
     if is_word(s, at) & is_byte(s, at + 8, 10) {
@@ -59,7 +59,7 @@ fn word_line_at(s: &[u8], at: usize) -> Line
 
 // A key, eight hexadecimal digits and LF.
 fn word_line(s: &[u8], at: usize, key: &[u8]) -> Line
-    requires { ⌜ (at ≤ 800000) × (length (now key) ≤ 20) ⌝ }
+    requires { ⌜ (at ≤ far) × (length (now key) ≤ longestKey) ⌝ }
     ensures { λ r. ⌜ r ≡ wordLine (now (s .entry)) at (now (key .entry)) ⌝ }
 {
     if stands_at(s, at, key) {
@@ -71,7 +71,7 @@ fn word_line(s: &[u8], at: usize, key: &[u8]) -> Line
 
 // One of two whole lines, which stand for 0 and 1.
 fn either_line(s: &[u8], at: usize, first: &[u8], second: &[u8]) -> Line
-    requires { ⌜ (at ≤ 800000) × (length (now first) ≤ 20) × (length (now second) ≤ 20) ⌝ }
+    requires { ⌜ (at ≤ far) × (length (now first) ≤ longestKey) × (length (now second) ≤ longestKey) ⌝ }
     ensures { λ r. ⌜ r ≡ eitherLine (now (s .entry)) at (now (first .entry)) (now (second .entry)) ⌝ }
 {
     if stands_at(s, at, first) {
@@ -84,7 +84,7 @@ fn either_line(s: &[u8], at: usize, first: &[u8], second: &[u8]) -> Line
 }
 
 fn type_line(s: &[u8], at: usize) -> Line
-    requires { ⌜ at ≤ 800000 ⌝ }
+    requires { ⌜ at ≤ far ⌝ }
     ensures { λ r. ⌜ r ≡ typeLine (now (s .entry)) at ⌝ }
 {
     if stands_at(s, at, b"type=cylinder\n") {
@@ -96,7 +96,7 @@ fn type_line(s: &[u8], at: usize) -> Line
 
 // The seven lines of the head, by number.
 pub fn head_line(s: &[u8], number: u8, at: usize) -> Line
-    requires { ⌜ at ≤ 800000 ⌝ }
+    requires { ⌜ at ≤ far ⌝ }
     ensures { λ r. ⌜ r ≡ headLine (now (s .entry)) number at ⌝ }
 {
     if number == 0 {

@@ -1,7 +1,7 @@
 // A reader over a sheet that is lent.
 ghost use mathlib.Core.Path.{_≡_};
 ghost use Prim.Native.Nat.{_≤_};
-ghost use Rattle.sheet.specs.Grammar.{headLine};
+ghost use Rattle.sheet.specs.Grammar.{far, headLine};
 use crate::line::Line;
 use crate::line::head_line;
 
@@ -20,7 +20,7 @@ fn open<'a>(src: &'a [u8], at: usize) -> Reader<'a>
 
 // The line of the head that starts there.
 fn next_line<'a>(r: Reader<'a>, number: u8) -> Line
-    requires { ⌜ r .at ≤ 800000 ⌝ }
+    requires { ⌜ r .at ≤ far ⌝ }
     ensures { λ l. ⌜ l ≡ headLine (now (r .entry .src)) number (r .entry .at) ⌝ }
 {
     head_line(r.src, number, r.at)
@@ -28,7 +28,7 @@ fn next_line<'a>(r: Reader<'a>, number: u8) -> Line
 
 // The same for callers that have the sheet and a place.
 pub fn line_from(s: &[u8], number: u8, at: usize) -> Line
-    requires { ⌜ at ≤ 800000 ⌝ }
+    requires { ⌜ at ≤ far ⌝ }
     ensures { λ l. ⌜ l ≡ headLine (now (s .entry)) number at ⌝ }
 {
     next_line(open(s, at), number)

@@ -1,6 +1,6 @@
 -- `sheet::read_points` meets its contract. Assumes nothing.
 use borrow.Author.Needs.{needs}
-use Rattle.sheet.specs.Ascii.{ascii}
+use Rattle.text.specs.Ascii.{ascii}
 use Rattle.sheet.specs.Sheet.{pointCount, pointsOf}
 use Rattle.sheet.proofs.Replies.{rows-read, rows-none}
 use Rattle.sheet.proofs.read_points.Statement.{statement}

@@ -9,6 +9,9 @@ use lib.Ieee.{Float}
 use lib.ListN.{take, length-replicate}
 use lib.Seq.{length-take-le}
 use Rattle.float.specs.Arith.{0f}
+use Rattle.text.specs.Ascii.{ascii}
+use Rattle.sheet.specs.Grammar.{rowSize}
+use Rattle.sheet.specs.Sheet.{mostPoints, mostRays, pointFloats}
 use Rattle.sheet.proofs.Fields.{head-short}
 use Rattle.sheet.proofs.Replies.{points-most, rays-most, points-lent, points-room, within-whole, within-wrong}
 use Rattle.sheet.proofs.read_within.Statement.{statement}
@@ -18,7 +21,7 @@ read-points-requires : tie.Need-read-points-requires
 read-points-requires c κs = (omega (arith, head-short _ _ (c .before .read-head .ensures) .0), search needs)
 
 -- the head is short, and there are few points
-short : (c : tie.After-points2) → (c .before .before .before .read-head .result .cursor .at ≤ 210) × (c .before .before .before .read-head .result .cursor .lines ≤ 7) × (c .before .read-points .result ≤ 2048)
+short : (c : tie.After-points2) → (c .before .before .before .read-head .result .cursor .at ≤ 210) × (c .before .before .before .read-head .result .cursor .lines ≤ 7) × (c .before .read-points .result ≤ mostPoints)
 short c = let h = head-short _ _ (c .before .before .before .read-head .ensures) in (h .0, h .1, points-most _ _ _ (c .before .read-points .ensures .0))
 
 mul-at : tie.Need-mul-at
@@ -31,7 +34,7 @@ read-rays-requires : tie.Need-read-rays-requires
 read-rays-requires c κs = (omega (arith, short (c .before .before)), search needs)
 
 -- there are few rays
-few : (c : tie.After-rays2) → c .before .read-rays .result ≤ 64
+few : (c : tie.After-rays2) → c .before .read-rays .result ≤ mostRays
 few c = rays-most _ _ _ _ (c .before .read-rays .ensures .0)
 
 mul-if1 : tie.Need-mul-if1
@@ -49,7 +52,7 @@ array-share-prefix-points c = omega (arith, short (c .before .before .before .be
 slice-aggregate-create : tie.Need-slice-aggregate-create
 slice-aggregate-create c =
     let points = c .before .before .before .before .before .before .before in
-    sym (length-take-le _ _ (points-room _ _ _ _ _ (points .read-points .ensures .0) (points .read-points .ensures .1) (le-of-eq (sym (length-replicate 6144 0f)))))
+    sym (length-take-le _ _ (points-room _ _ _ _ _ (points .read-points .ensures .0) (points .read-points .ensures .1) (le-of-eq (sym (length-replicate (mostPoints * pointFloats) 0f)))))
 
 add-refused : tie.Need-add-refused
 add-refused c = record { fits = omega (arith, short (c .before .before .before .before .before .before)) }
@@ -61,14 +64,16 @@ add-refused-3 : tie.Need-add-refused-3
 add-refused-3 c = record { fits = omega (arith, few (c .before .before), short (c .before .before .before .before .before .before)) }
 
 returns : tie.Need-returns
+unfolding rowSize ascii
 returns c =
     let tested = c .before .before .before .before .before in
     let rays = tested .before .before in
     let points = rays .before .before .before .before in
-    let lent = ap (λ (x : List Float). take (points .read-points .result * 3) x) (points .read-points .ensures .1) ∙ points-lent _ _ _ _ (points .read-points .ensures .0) in
+    let lent = ap (λ (x : List Float). take (points .read-points .result * pointFloats) x) (points .read-points .ensures .1) ∙ points-lent _ _ _ _ (points .read-points .ensures .0) in
     within-whole _ _ _ _ _ (points .before .before .read-head .ensures) (points .read-points .ensures .0) (rays .read-rays .ensures) _ _ _ _ _ (tested .if1 .taken) lent (c .before .before .create .ensures)
 
 returns-2 : tie.Need-returns-2
+unfolding rowSize ascii
 returns-2 c =
     let tested = c .before .before in
     let rays = tested .before .before in

@@ -5,7 +5,7 @@ use denote.Ref.{now}
 use lib.ListN.{length}
 use Rattle.sheet.specs.Sheet.{replyWithin}
 use Rattle.sheet.specs.declared.Sheet.{Sheet}
-use Rattle.sheet.proofs.Law.{reply-within}
+use Rattle.sheet.proofs.ReplyWithin.{reply-within}
 use Rattle.curve_c.specs.Calls.{replyStatus, beamsAfter, countsAfter}
 use Rattle.curve_c.proofs.sheets.curve_sheet.Statement.{statement}
 use Rattle.curve_c.proofs.sheets.curve_sheet.Tie as tie

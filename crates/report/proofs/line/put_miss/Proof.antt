@@ -1,39 +1,18 @@
--- `report::line::put_miss` meets its contract: its parts are put one behind the other, within the room that is asked for. Assumes nothing.
-use native.Mathlib.Nat.{le-refl}
-use native.Mathlib.Omega.{arith}
+-- `report::line::put_miss` meets its contract: its parts are put one behind the other. Assumes nothing.
 use borrow.Author.Needs.{needs}
-use Rattle.sheet.specs.Ascii.{ascii}
-use Rattle.report.specs.Text.{missText}
-use Rattle.report.proofs.Puts.{decimal-most, first, place-most, room, then}
+use Rattle.text.specs.Ascii.{ascii}
+use Rattle.text.proofs.Puts.{then}
+use Rattle.report.specs.Printed.{missText}
 use Rattle.report.proofs.line.put_miss.Statement.{statement}
 use Rattle.report.proofs.line.put_miss.Tie as tie
-
-put-word-requires : tie.Need-put-word-requires
-put-word-requires c κs =
-    let p0 = first 20 _ _ _ _ _ (c .before .before .before .before .put-place .ensures) (place-most _ _) in
-    room 20 8 _ _ _ _ _ p0 (omega (arith, c .before .before .before .before .before .before .before .pre))
-
-put-decimal-requires : tie.Need-put-decimal-requires
-put-decimal-requires c κs =
-    let p0 = first 20 _ _ _ _ _ (c .before .before .before .before .before .before .before .before .put-place .ensures) (place-most _ _) in
-    let p1 = then 20 8 _ _ _ _ _ _ _ _ p0 (c .before .before .before .put-word .ensures) (le-refl 8) (omega (arith, c .before .before .before .before .before .before .before .before .before .before .before .pre)) in
-    room 28 4 _ _ _ _ _ p1 (omega (arith, c .before .before .before .before .before .before .before .before .before .before .before .pre))
-
-put-word-requires-2 : tie.Need-put-word-requires-2
-put-word-requires-2 c κs =
-    let p0 = first 20 _ _ _ _ _ (c .before .before .before .before .before .before .before .before .before .before .before .before .before .put-place .ensures) (place-most _ _) in
-    let p1 = then 20 8 _ _ _ _ _ _ _ _ p0 (c .before .before .before .before .before .before .before .before .put-word .ensures) (le-refl 8) (omega (arith, c .before .before .before .before .before .before .before .before .before .before .before .before .before .before .before .before .pre)) in
-    let p2 = then 28 4 _ _ _ _ _ _ _ _ p1 (c .before .before .before .before .put-decimal .ensures) (decimal-most _) (omega (arith, c .before .before .before .before .before .before .before .before .before .before .before .before .before .before .before .before .pre)) in
-    room 32 7 _ _ _ _ _ p2 (omega (arith, c .before .before .before .before .before .before .before .before .before .before .before .before .before .before .before .before .pre))
 
 returns : tie.Need-returns
 unfolding missText ascii
 returns c =
-    let p0 = first 20 _ _ _ _ _ (c .before .before .before .before .before .before .before .before .before .before .before .before .before .before .before .before .put-place .ensures) (place-most _ _) in
-    let p1 = then 20 8 _ _ _ _ _ _ _ _ p0 (c .before .before .before .before .before .before .before .before .before .before .before .put-word .ensures) (le-refl 8) (omega (arith, c .before .before .before .before .before .before .before .before .before .before .before .before .before .before .before .before .before .before .before .pre)) in
-    let p2 = then 28 4 _ _ _ _ _ _ _ _ p1 (c .before .before .before .before .before .before .before .put-decimal .ensures) (decimal-most _) (omega (arith, c .before .before .before .before .before .before .before .before .before .before .before .before .before .before .before .before .before .before .before .pre)) in
-    let p3 = then 32 7 _ _ _ _ _ _ _ _ p2 (c .before .before .put-word2 .ensures) (le-refl 7) (omega (arith, c .before .before .before .before .before .before .before .before .before .before .before .before .before .before .before .before .before .before .before .pre)) in
-    p3 .0
+    let word = c .before .before in
+    let number = word .before .before .before .before .before in
+    let place = number .before .before .before .before .before in
+    then (then (place .put-place .ensures) (number .put-number .ensures)) (word .put-word .ensures)
 
 pub put-miss-spec : {M : Type 1} → statement M
-put-miss-spec = tie.close (tie.spec (λ c κs. omega (arith, c .before .before .pre)) (λ c. search needs) put-word-requires put-decimal-requires (λ c. search needs) put-word-requires-2 (λ c. search needs) returns)
+put-miss-spec = tie.close (tie.spec (λ c κs. tt) (λ c. search needs) (λ c κs. tt) (λ c. search needs) (λ c κs. tt) (λ c. search needs) returns)

@@ -1,42 +1,17 @@
--- `report::line::put_place` meets its contract: its parts are put one behind the other, within the room that is asked for. Assumes nothing.
-use native.Mathlib.Nat.{le-refl}
-use native.Mathlib.Omega.{arith}
+-- `report::line::put_place` meets its contract: its parts are put one behind the other. Assumes nothing.
 use borrow.Author.Needs.{needs}
-use Rattle.sheet.specs.Ascii.{ascii}
-use Rattle.report.specs.Text.{placeText}
-use Rattle.report.proofs.Puts.{decimal-most, first, room, then, word-fits}
+use Rattle.text.specs.Ascii.{ascii}
+use Rattle.text.proofs.Puts.{then}
+use Rattle.report.specs.Printed.{placeText}
 use Rattle.report.proofs.line.put_place.Statement.{statement}
 use Rattle.report.proofs.line.put_place.Tie as tie
-
-put-word-requires : tie.Need-put-word-requires
-put-word-requires c κs = word-fits _ _ 20 _ (c .before .before .before .pre) tt
-
-put-decimal-requires : tie.Need-put-decimal-requires
-put-decimal-requires c κs =
-    let p0 = first 5 _ _ _ _ _ (c .before .before .before .put-word .ensures) (le-refl 5) in
-    room 5 4 _ _ _ _ _ p0 (omega (arith, c .before .before .before .before .before .before .before .pre))
-
-put-word-requires-2 : tie.Need-put-word-requires-2
-put-word-requires-2 c κs =
-    let p0 = first 5 _ _ _ _ _ (c .before .before .before .before .before .before .before .before .put-word .ensures) (le-refl 5) in
-    let p1 = then 5 4 _ _ _ _ _ _ _ _ p0 (c .before .before .before .before .put-decimal .ensures) (decimal-most _) (omega (arith, c .before .before .before .before .before .before .before .before .before .before .before .before .pre)) in
-    room 9 7 _ _ _ _ _ p1 (omega (arith, c .before .before .before .before .before .before .before .before .before .before .before .before .pre))
-
-put-decimal-requires-2 : tie.Need-put-decimal-requires-2
-put-decimal-requires-2 c κs =
-    let p0 = first 5 _ _ _ _ _ (c .before .before .before .before .before .before .before .before .before .before .before .before .put-word .ensures) (le-refl 5) in
-    let p1 = then 5 4 _ _ _ _ _ _ _ _ p0 (c .before .before .before .before .before .before .before .before .put-decimal .ensures) (decimal-most _) (omega (arith, c .before .before .before .before .before .before .before .before .before .before .before .before .before .before .before .before .pre)) in
-    let p2 = then 9 7 _ _ _ _ _ _ _ _ p1 (c .before .before .before .put-word2 .ensures) (le-refl 7) (omega (arith, c .before .before .before .before .before .before .before .before .before .before .before .before .before .before .before .before .pre)) in
-    room 16 4 _ _ _ _ _ p2 (omega (arith, c .before .before .before .before .before .before .before .before .before .before .before .before .before .before .before .before .pre))
 
 returns : tie.Need-returns
 unfolding placeText ascii
 returns c =
-    let p0 = first 5 _ _ _ _ _ (c .before .before .before .before .before .before .before .before .before .before .before .before .before .before .before .put-word .ensures) (le-refl 5) in
-    let p1 = then 5 4 _ _ _ _ _ _ _ _ p0 (c .before .before .before .before .before .before .before .before .before .before .before .put-decimal .ensures) (decimal-most _) (omega (arith, c .before .before .before .before .before .before .before .before .before .before .before .before .before .before .before .before .before .before .before .pre)) in
-    let p2 = then 9 7 _ _ _ _ _ _ _ _ p1 (c .before .before .before .before .before .before .put-word2 .ensures) (le-refl 7) (omega (arith, c .before .before .before .before .before .before .before .before .before .before .before .before .before .before .before .before .before .before .before .pre)) in
-    let p3 = then 16 4 _ _ _ _ _ _ _ _ p2 (c .before .before .put-decimal2 .ensures) (decimal-most _) (omega (arith, c .before .before .before .before .before .before .before .before .before .before .before .before .before .before .before .before .before .before .before .pre)) in
-    p3 .0
+    let number2 = c .before .before in
+    let number = number2 .before .before .before .before .before in
+    then (number .put-number .ensures) (number2 .put-number2 .ensures)
 
 pub put-place-spec : {M : Type 1} → statement M
-put-place-spec = tie.close (tie.spec (λ c. search needs) put-word-requires put-decimal-requires (λ c. search needs) put-word-requires-2 put-decimal-requires-2 (λ c. search needs) returns)
+put-place-spec = tie.close (tie.spec (λ c. search needs) (λ c κs. tt) (λ c. search needs) (λ c κs. tt) (λ c. search needs) returns)

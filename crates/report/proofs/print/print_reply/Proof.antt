@@ -1,24 +1,28 @@
--- `report::print::print_reply` is safe: the parts that are lent are within their arrays. Assumes nothing.
-use mathlib.Core.Path.{_≡_, sym}
+-- `report::print::print_reply` is safe: the rays and the curves of a reply are within their arrays. Assumes nothing.
+use mathlib.Core.Path.{_≡_, subst}
+use Prim.Native.Nat.{_*_, _≤_}
 use native.Mathlib.Omega.{arith}
 use borrow.Author.Needs.{needs}
 use lib.ListN.{length}
-use lib.Seq.{length-take-le}
+use Rattle.geometry.specs.Ray.{rayFloats}
+use Rattle.sheet.specs.Sheet.{mostRays, replyWithin}
 use Rattle.report.proofs.print.print_reply.Statement.{statement}
 use Rattle.report.proofs.print.print_reply.Tie as tie
 
--- the rays are an array of 512
-long : (c : tie.Then1) → length (c .before .before .before .before .before .before .args .read .rays) ≡ 512
+-- the rays are an array
+long : (c : tie.After-rays2) → length (c .before .before .before .before .before .before .before .args .read .rays) ≡ mostRays * rayFloats
 long c = search needs
 
-array-share-prefix-rays : tie.Need-array-share-prefix-rays
-array-share-prefix-rays c = omega (arith, long c)
+print-accepted-requires : tie.Need-print-accepted-requires
+print-accepted-requires c κs =
+    let told = c .before .before .before in
+    let few : told .reply .given .0 .1 .1 .0 ≤ mostRays = subst replyWithin (told .reply .given .1) (told .before .before .before .before .pre) in
+    (few, omega (arith, long c), c .before .if1 .taken)
 
-slice-aggregate-print-accepted : tie.Need-slice-aggregate-print-accepted
-slice-aggregate-print-accepted c = sym (length-take-le _ _ (omega (arith, long (c .before))))
-
-slice-aggregate-print-accepted-2 : tie.Need-slice-aggregate-print-accepted-2
-slice-aggregate-print-accepted-2 c = sym (length-take-le _ _ (c .before .before .if1 .taken))
+print-refused-requires : tie.Need-print-refused-requires
+print-refused-requires c κs = let told = c .before in subst replyWithin (told .reply2 .given .1) (told .before .before .before .before .pre)
 
 pub print-reply-spec : {M : Type 1} → statement M
-print-reply-spec = tie.close (tie.spec (λ c. search needs) (λ c. search needs) (λ c. search needs) (λ c. search needs) array-share-prefix-rays slice-aggregate-print-accepted slice-aggregate-print-accepted-2 (λ c κs. search needs) (λ c. search needs) (λ c κs. search needs) (λ c. search needs) (λ c. search needs) (λ c. search needs))
+print-reply-spec =
+    tie.close
+    (tie.spec (λ c. search needs) (λ c. search needs) (λ c. search needs) (λ c. search needs) print-accepted-requires (λ c. search needs) print-refused-requires (λ c. search needs) (λ c. search needs) (λ c. search needs))

@@ -1,16 +1,13 @@
 -- `sheet::head::advance` meets its contract: each return rewrites by the facts on its way.
 -- Assumes nothing.
 use borrow.Author.Needs.{needs}
-use Rattle.sheet.specs.Sheet.{advanced}
 use Rattle.sheet.proofs.head.advance.Statement.{statement}
 use Rattle.sheet.proofs.head.advance.Tie as tie
 
 returns : tie.Need-returns
-unfolding advanced
 returns c = rw (c .before .line .given .1)
 
 returns-2 : tie.Need-returns-2
-unfolding advanced
 returns-2 c = rw (c .enum-told .given .1)
 
 pub advance-spec : {M : Type 1} → statement M

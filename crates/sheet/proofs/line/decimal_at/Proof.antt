@@ -4,7 +4,7 @@ use Prim.Native.Nat.{_≤_}
 use native.Mathlib.Omega.{arith}
 use borrow.Author.Needs.{needs}
 use Rattle.sheet.specs.Grammar.{decimalAt}
-use Rattle.sheet.proofs.Digits.{digit-at-le}
+use Rattle.text.proofs.DigitSize.{digit-at-le}
 use Rattle.sheet.proofs.line.decimal_at.Statement.{statement}
 use Rattle.sheet.proofs.line.decimal_at.Tie as tie
 

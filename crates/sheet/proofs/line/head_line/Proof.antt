@@ -2,7 +2,7 @@
 -- Assumes nothing.
 use borrow.Author.Needs.{needs}
 use borrow.Author.Tests.{eq-eqb, ne-eqb}
-use Rattle.sheet.specs.Ascii.{ascii}
+use Rattle.text.specs.Ascii.{ascii}
 use Rattle.sheet.specs.Grammar.{headLine}
 use Rattle.sheet.proofs.line.head_line.Statement.{statement}
 use Rattle.sheet.proofs.line.head_line.Tie as tie

@@ -1,7 +1,7 @@
 -- `sheet::line::type_line` meets its contract: each return rewrites by the facts on its way.
 -- Assumes nothing.
 use borrow.Author.Needs.{needs}
-use Rattle.sheet.specs.Ascii.{ascii}
+use Rattle.text.specs.Ascii.{ascii}
 use Rattle.sheet.specs.Grammar.{typeLine}
 use Rattle.sheet.proofs.line.type_line.Statement.{statement}
 use Rattle.sheet.proofs.line.type_line.Tie as tie

@@ -38,7 +38,7 @@ use denote.Triple.Table.{entered, cited}
 use denote.Triple.Walked.{says, needs, Stays, stay-none, stay-none-slice, walkOf, goes-none, goes-none-slice, Walks, ends-at, walked, walk-meets}
 use denote.Exit.{yes}
 use denote.Triple.Clauses.{ensured, lasts}
-use Rattle.sheet.specs.Grammar.{headLine}
+use Rattle.sheet.specs.Grammar.{far, headLine}
 use Rattle.sheet.specs.declared.line.Line.{Line}
 use Rattle.sheet.specs.declared.reader.Reader.{Reader}
 use Rattle.sheet.proofs.reader.Reader as T
@@ -73,7 +73,7 @@ module _ {M : Type 1} (𝓤 : URA M) (H : Heap 𝓤) (A : Atoms 𝓤) (mem : Mem
   abbrev Next : Contract 𝓤
   Next = tripleOf 𝓤 H A next.signature (next.spec 𝓤 H A mem run)
 
-module _ {M : Type 1} (𝓤 : URA M) (H : Heap 𝓤) (A : Atoms 𝓤) (W : Given 𝓤 H A) (mem : Memory → SProp 𝓤) (run : Routine → Fun 𝓤) (κ : Lft) (q : Share) (s : RefT (List ℕ)) (m n : ℕ) (m-fits : m < 2 ^ 8) (n-fits : n < 2 ^ 64) (within : n ≤ 800000) where
+module _ {M : Type 1} (𝓤 : URA M) (H : Heap 𝓤) (A : Atoms 𝓤) (W : Given 𝓤 H A) (mem : Memory → SProp 𝓤) (run : Routine → Fun 𝓤) (κ : Lft) (q : Share) (s : RefT (List ℕ)) (m n : ℕ) (m-fits : m < 2 ^ 8) (n-fits : n < 2 ^ 64) (within : n ≤ far) where
   -- the machine value that s has
   abbrev v : Val
   v = sliceVal (s .ptr) (length (s .now))
@@ -115,7 +115,7 @@ module _ {M : Type 1} (𝓤 : URA M) (H : Heap 𝓤) (A : Atoms 𝓤) (W : Given
   abbrev to-next : Reader → Val → Next 𝓤 H A mem run .Ghost
   to-next r u = (((κ, tt), (q, tt), tt, (r, (m, tt)), (u ∷ [], (vint w8 m ∷ [], tt))), tt)
 
-  goes-next : (r : Reader) (u : Val) → r .at ≤ 800000 → ent 𝓤 (⋆ 𝓤 H A (‵ (B (κ, tt) .own r (u ∷ [])) ∷ (‵ (flft κ q) ⊛ ‵ ftrue) ∷ [])) (Next 𝓤 H A mem run .pre (to-next r u))
+  goes-next : (r : Reader) (u : Val) → r .at ≤ far → ent 𝓤 (⋆ 𝓤 H A (‵ (B (κ, tt) .own r (u ∷ [])) ∷ (‵ (flft κ q) ⊛ ‵ ftrue) ∷ [])) (Next 𝓤 H A mem run .pre (to-next r u))
   goes-next r u below =
       qed W (‵ (B (κ, tt) .own r (u ∷ [])) ∷ (‵ (flft κ q) ⊛ ‵ ftrue) ∷ []) ∵ says ! below $ move ! (1 ∷ 0 ∷ []) $ frame ! $
       nothing ! $ owned ! u8 (Is u8) (uint-makes 𝓤 H A W w8) m _ (refl, m-fits) $ fjoin ! $ move ! (1 ∷ 0 ∷ []) $ fjoin ! $ done !
@@ -144,7 +144,7 @@ module _ {M : Type 1} (𝓤 : URA M) (H : Heap 𝓤) (A : Atoms 𝓤) (W : Given
         -- [what the struct owns; the token; what s owns; room for _4; …; _3; …; _2; …; _1; …; room for _0; …]
         peeks ! (B (κ, tt)) (Is (B (κ, tt))) (shows 𝓤 H A (B (κ, tt))) r (u ∷ []) (λ is.
         land ! (from ! (stop !)) (init ! 3 refl (LL.lawful (T.the-type αᵉ) (T′.the-laws αᵉ) 𝓤 H A W .typed r _ is .0)) $
-        use2 W (raw (Next 𝓤 H A mem run .pre (to-next r u))) (goes-next r u (subst (λ (x : ℕ). x ≤ 800000) (sym (e .1)) within)) $
+        use2 W (raw (Next 𝓤 H A mem run .pre (to-next r u))) (goes-next r u (subst (λ (x : ℕ). x ≤ far) (sym (e .1)) within)) $
         calls-at ! fm (Next 𝓤 H A mem run) known-next (to-next r u) (and-then ! (load ! (from ! (stop !)) (look ! 2 refl)) (and-then ! (load ! (from ! (stop !)) (look ! 6 refl)) (no-more !))) (λ u′.
         use1 W (later (some (λ (t : Line). ((‵ (flft κ q) ⊛ ‵ ftrue) ⊛ ‵ (S.the-row .own t (u′ ∷ []))) ⊛ raw (ensured 𝓤 H A next.ended (next.clauses 𝓤 H A mem run) (κ, tt) (r, (m, tt)) tt t)))) (id⊢ 𝓤 _) $ await ! tt $ pick ! (λ t.
         split ! $ move ! (1 ∷ []) $ use1 W (raw (fact 𝓤 (t ≡ headLine (now (r .src)) m (r .at)))) (next-said r t) $ heard ! (t ≡ headLine (now (r .src)) m (r .at)) (λ e′. split ! $ move ! (1 ∷ []) $
@@ -159,7 +159,7 @@ module _ {M : Type 1} (𝓤 : URA M) (H : Heap 𝓤) (A : Atoms 𝓤) (W : Given
   line-from-walks : (C : Calls 𝓤 H) (Λ : Loops 𝓤 H) → FmC 𝓤 H (W .laws) C → Triple 𝓤 (C #sheet·reader·open) (Open 𝓤 H A mem run) → Triple 𝓤 (C #sheet·reader·next-line) (Next 𝓤 H A mem run)
       → Walks 𝓤 H A line.ended stayed (WpFn 𝓤 H C Λ code.function) (line.clauses 𝓤 H A mem run)
   line-from-walks C Λ fm known-open known-next = walked 𝓤 H A line.ended stayed (line.clauses 𝓤 H A mem run) (WpFn 𝓤 H C Λ code.function) (λ κs. (slice-vals, (uint-vals w8, (uint-vals w64, tt)))) (λ κs. (shr-slice-tells (named 0) (κs .0) u8, (uint-tells w8, (uint-tells w64, tt))))
-      (λ κs qs bounds a g are. needs 𝓤 (a .1 .1 .0 ≤ 800000) _ (λ within. walk 𝓤 H A W mem run (κs .0) (qs .0) (a .0) (a .1 .0) (a .1 .1 .0) (are .1 .0 .1) (are .1 .1 .0 .1) within C Λ fm known-open known-next (are .0)))
+      (λ κs qs bounds a g are. needs 𝓤 (a .1 .1 .0 ≤ far) _ (λ within. walk 𝓤 H A W mem run (κs .0) (qs .0) (a .0) (a .1 .0) (a .1 .1 .0) (are .1 .0 .1) (are .1 .1 .0 .1) within C Λ fm known-open known-next (are .0)))
 
 line-from-meets : {M : Type 1} (𝓤 : URA M) (H : Heap 𝓤) (A : Atoms 𝓤) (W : Given 𝓤 H A) (mem : Memory → SProp 𝓤) (run : Routine → Fun 𝓤) (𝓣 : Tables 𝓤 H)
     → Triple 𝓤 (𝓣 .C #sheet·reader·open) (Open 𝓤 H A mem run) → Triple 𝓤 (𝓣 .C #sheet·reader·next-line) (Next 𝓤 H A mem run)

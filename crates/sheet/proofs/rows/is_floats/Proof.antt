@@ -8,15 +8,15 @@ use native.Mathlib.Omega.{arith}
 use borrow.Author.Needs.{needs}
 use borrow.Author.Tests.{not-true, not-false}
 use denote.Ref.{now}
-use Rattle.sheet.specs.Bytes.{allBelow, byteIs, isWord}
-use Rattle.sheet.specs.Grammar.{separator, isFloats}
-use Rattle.sheet.proofs.Below.{all-next, all-fails}
+use Rattle.text.specs.Bytes.{allBelow, byteIs, isWord}
+use Rattle.sheet.specs.Grammar.{floatSize, separator, isFloats}
+use Rattle.text.proofs.Below.{all-next, all-fails}
 use Rattle.sheet.proofs.rows.is_floats.Statement.{statement}
 use Rattle.sheet.proofs.rows.is_floats.Tie as tie
 
 -- float j stands there
 abbrev P : List ℕ → ℕ → ℕ → ℕ → Bool
-P l at n j = isWord l (at + j * 9) && byteIs l (at + j * 9 + 8) (separator n j)
+P l at n j = isWord l (at + j * floatSize) && byteIs l (at + j * floatSize + 8) (separator n j)
 
 abbrev Inv-loop : tie.InvT-loop
 Inv-loop s at n i₀ i = (i ≤ n) × (allBelow i (P s at n) ≡ true)
@@ -29,7 +29,7 @@ unfolding allBelow
 loop-holds c = (omega arith, refl)
 
 -- what the test found
-tested : (l : List ℕ) (at n i : ℕ) (w b : Bool) (p : ℕ) → w ≡ isWord l (at + i * 9) → b ≡ byteIs l (at + i * 9 + 8) p → p ≡ separator n i → P l at n i ≡ w && b
+tested : (l : List ℕ) (at n i : ℕ) (w b : Bool) (p : ℕ) → w ≡ isWord l (at + i * floatSize) → b ≡ byteIs l (at + i * floatSize + 8) p → p ≡ separator n i → P l at n i ≡ w && b
 tested l at n i w b p e f g = rw (← g) (ap₂ (λ x y. x && y) (sym e) (sym f))
 
 loop-again : tie.Need-loop-again Inv-loop μ-loop

@@ -11,7 +11,7 @@ use lib.Ieee.{Float, nan}
 use lib.ListN.{length, set, length-set}
 use lib.Seq.{paste, paste-zero, paste-suc}
 use Rattle.limits.proofs.Lists.{paste-over}
-use Rattle.sheet.specs.Grammar.{floatAt, floatsAt}
+use Rattle.sheet.specs.Grammar.{floatSize, floatAt, floatsAt}
 use Rattle.sheet.proofs.Floats.{length-floats, floats-at}
 use Rattle.sheet.proofs.rows.put_floats.Statement.{statement}
 use Rattle.sheet.proofs.rows.put_floats.Tie as tie
@@ -28,7 +28,7 @@ loop-holds c =
     (omega arith, paste-zero (now (s .args .out)) (s .args .to) (floatsAt (now (s .args .s)) (s .args .at) (s .args .n)), refl)
 
 -- one more float
-turn : (l : List ℕ) (at n : ℕ) (d x : List Float) (to i : ℕ) (v : Float) → i < n → to + n ≤ length d → x ≡ paste d to (floatsAt l at n) i → v ≡ floatAt l (at + i * 9)
+turn : (l : List ℕ) (at n : ℕ) (d x : List Float) (to i : ℕ) (v : Float) → i < n → to + n ≤ length d → x ≡ paste d to (floatsAt l at n) i → v ≡ floatAt l (at + i * floatSize)
     → set x (to + i) v ≡ paste d to (floatsAt l at n) (i + 1)
 turn l at n d x to i v h room e f =
     ap (λ (y : List Float). set y (to + i) v) e

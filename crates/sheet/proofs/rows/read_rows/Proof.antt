@@ -10,12 +10,14 @@ use borrow.Author.Tests.{not-true, not-false}
 use denote.Ref.{now}
 use lib.Ieee.{Float}
 use lib.ListN.{length}
+use Rattle.geometry.specs.Ray.{rayFloats}
 use Rattle.limits.specs.List.{over, upTo}
 use Rattle.limits.proofs.Lists.{over-nil, over-next, over-length}
-use Rattle.sheet.specs.Bytes.{allBelow}
-use Rattle.sheet.specs.Grammar.{isRow, rowSize, floatsAt}
-use Rattle.sheet.specs.Sheet.{rowsFrom, floatsFrom}
-use Rattle.sheet.proofs.Below.{all-next, run-is}
+use Rattle.text.specs.Bytes.{allBelow}
+use Rattle.sheet.specs.Grammar.{far, longestKey, floatSize, isRow, rowSize, floatsAt, rowsFrom, floatsFrom}
+use Rattle.sheet.proofs.Runs.{run-is}
+use Rattle.sheet.specs.Sheet.{mostBytes, mostPoints}
+use Rattle.text.proofs.Below.{all-next}
 use Rattle.sheet.proofs.Floats.{length-floats, small, next-in}
 use Rattle.sheet.proofs.rows.read_rows.Statement.{statement}
 use Rattle.sheet.proofs.rows.read_rows.Tie as tie
@@ -40,8 +42,8 @@ unfolding rowSize allBelow upTo
 loop-holds c = let s = c .before .before .before in (omega arith, refl, refl, sym (over-nil (now (s .args .out)) 0), refl)
 
 -- how far the rows reach
-reach : (j most size key n at : ℕ) → size ≡ key + n * 9 → key ≤ 20 → n ≤ 8 → most ≤ 2048 → j < most → at ≤ 100000 → at + j * size ≤ 290000
-reach j most size key n at e k h m l a = omega (arith, small j size 2048 92 (omega arith) (omega arith))
+reach : (j most size key n at : ℕ) → size ≡ key + n * floatSize → key ≤ longestKey → n ≤ rayFloats → most ≤ mostPoints → j < most → at ≤ 2 * mostBytes → at + j * size ≤ far
+reach j most size key n at e k h m l a = omega (arith, small j size mostPoints (longestKey + rayFloats * floatSize) (omega arith) (omega arith))
 
 module _ (t : tie.In-loop Inv-loop μ-loop) where
   abbrev l : tie.At-loop Inv-loop μ-loop
@@ -50,7 +52,7 @@ module _ (t : tie.In-loop Inv-loop μ-loop) where
   abbrev s : tie.Start Inv-loop μ-loop
   s = l .before .before .before .before
 
-  near : s .args .at + l .loop .j * (length (now (s .args .key)) + s .args .n * 9) ≤ 290000
+  near : s .args .at + l .loop .j * (length (now (s .args .key)) + s .args .n * floatSize) ≤ far
   near = reach (l .loop .j) (s .args .most) _ (length (now (s .args .key))) (s .args .n) (s .args .at) refl (s .pre .1) (s .pre .2) (s .pre .3) (t .loop-test .taken) (s .pre .0)
 
   fits : l .loop .j * s .args .n + s .args .n ≤ length (now (s .args .out))
@@ -69,7 +71,7 @@ add-put-floats : tie.Need-add-put-floats Inv-loop μ-loop
 add-put-floats c = let t = c .before .before in record { fits = omega (arith, near t, s t .pre .1) }
 
 mul-put-floats : tie.Need-mul-put-floats Inv-loop μ-loop
-mul-put-floats c = let t = c .before .before .before in record { fits = omega (arith, fits t, small (l t .loop .j) (s t .args .n) 2048 8 (omega (arith, t .loop-test .taken, s t .pre .3)) (s t .pre .2)) }
+mul-put-floats c = let t = c .before .before .before in record { fits = omega (arith, fits t, small (l t .loop .j) (s t .args .n) mostPoints rayFloats (omega (arith, t .loop-test .taken, s t .pre .3)) (s t .pre .2)) }
 
 put-floats-requires : tie.Need-put-floats-requires Inv-loop μ-loop
 put-floats-requires c κs =

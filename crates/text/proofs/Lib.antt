@@ -1,0 +1,6 @@
+pub mod Below
+pub mod Decimal
+pub mod DigitSize
+pub mod DigitsBack
+pub mod Places
+pub mod Puts
