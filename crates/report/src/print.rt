@@ -42,7 +42,8 @@ fn put_answer(out: &mut [u8], at: usize, ray: u32, piece: u32, met: Intersection
     }
 }
 
-// An answer that reaches the buffer's end may be cut: what is before it is written, and it is put again.
+// A line that ends before the buffer's end is whole. Any other may be cut: what is before it is written, and
+// it is put again.
 fn print_answer(out: &mut [u8], at: usize, ray: u32, piece: u32, met: Intersection) -> usize {
     let end = put_answer(out, at, ray, piece, met);
     if end < out.len() {

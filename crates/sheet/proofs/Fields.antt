@@ -9,7 +9,7 @@ use lib.Dec.{eqb, ltb, lit≤}
 use lib.ListN.{length}
 use Rattle.text.specs.Ascii.{ascii}
 use Rattle.text.specs.Bytes.{byteIs, standsAt, digitAt, isWord, wordAt}
-use Rattle.sheet.specs.Grammar.{lineFeed, longestKey, decimalAt, decimalLine, wordLineAt, wordLine, eitherLine, typeLine, headLine}
+use Rattle.sheet.specs.Grammar.{lineFeed, longestKey, decimalAt, decimalLine, wordLineAt, wordLine, eitherLine, typeLine, laterLine, headLine}
 use Rattle.sheet.specs.Sheet.{advanced, fieldOf, startOf, headOf}
 use Rattle.sheet.specs.declared.line.Line.{Line}
 use Rattle.sheet.specs.declared.line.Line.the-variants.{Value, Wrong}
@@ -70,13 +70,17 @@ type-by : (l : List ℕ) (at : ℕ) → By (at + 30) (typeLine l at)
 unfolding typeLine ascii
 type-by l at = by-cond _ (standsAt l at (ascii "type=cylinder\n")) (Value 2 (at + 14)) (eitherLine l at (ascii "type=flat\n") (ascii "type=ribbon\n")) (by-value (at + 30) _ (at + 14) (omega arith)) (either-by l at (ascii "type=flat\n") (ascii "type=ribbon\n") (lit≤ tt) (lit≤ tt))
 
+later-by : (l : List ℕ) (number at : ℕ) → By (at + 30) (laterLine l number at)
+unfolding laterLine ascii
+later-by l number at =
+    let splitdepth = by-cond (at + 30) (eqb number 5) (decimalLine l at (ascii "splitdepth=")) (eitherLine l at (ascii "reverse=0\n") (ascii "reverse=1\n")) (decimal-line-by l at (ascii "splitdepth=") (lit≤ tt)) (either-by l at (ascii "reverse=0\n") (ascii "reverse=1\n") (lit≤ tt) (lit≤ tt)) in
+    let width1 = by-cond (at + 30) (eqb number 4) (wordLine l at (ascii "width1=")) _ (word-line-by l at (ascii "width1=") (lit≤ tt)) splitdepth in
+    by-cond (at + 30) (eqb number 3) (wordLine l at (ascii "width0=")) _ (word-line-by l at (ascii "width0=") (lit≤ tt)) width1
+
 head-by : (l : List ℕ) (number at : ℕ) → By (at + 30) (headLine l number at)
 unfolding headLine ascii
 head-by l number at =
-    let splitdepth = by-cond (at + 30) (eqb number 5) (decimalLine l at (ascii "splitdepth=")) (eitherLine l at (ascii "reverse=0\n") (ascii "reverse=1\n")) (decimal-line-by l at (ascii "splitdepth=") (lit≤ tt)) (either-by l at (ascii "reverse=0\n") (ascii "reverse=1\n") (lit≤ tt) (lit≤ tt)) in
-    let width1 = by-cond (at + 30) (eqb number 4) (wordLine l at (ascii "width1=")) _ (word-line-by l at (ascii "width1=") (lit≤ tt)) splitdepth in
-    let width0 = by-cond (at + 30) (eqb number 3) (wordLine l at (ascii "width0=")) _ (word-line-by l at (ascii "width0=") (lit≤ tt)) width1 in
-    let ty = by-cond (at + 30) (eqb number 2) (typeLine l at) _ (type-by l at) width0 in
+    let ty = by-cond (at + 30) (eqb number 2) (typeLine l at) _ (type-by l at) (later-by l number at) in
     let basis = by-cond (at + 30) (eqb number 1) (eitherLine l at (ascii "basis=bezier\n") (ascii "basis=bspline\n")) _ (either-by l at (ascii "basis=bezier\n") (ascii "basis=bspline\n") (lit≤ tt) (lit≤ tt)) ty in
     by-cond (at + 30) (eqb number 0) (decimalLine l at (ascii "degree=")) _ (decimal-line-by l at (ascii "degree=") (lit≤ tt)) basis
 

@@ -14,7 +14,7 @@ use Rattle.text.specs.Digits.{digitChar, decimalIn, decimalText, hexText}
 use Rattle.text.proofs.Decimal.{decimal-one, decimal-more}
 use Rattle.text.proofs.DigitsBack.{digit-no-end, digit-back, digit-here, word-back}
 use Rattle.text.proofs.Places.{Reads, reads-next, byte-at, byte-here, stands, stands-not}
-use Rattle.sheet.specs.Grammar.{decimalAt, decimalLine, wordLineAt, wordLine, eitherLine, typeLine, headLine}
+use Rattle.sheet.specs.Grammar.{decimalAt, decimalLine, wordLineAt, wordLine, eitherLine, typeLine, laterLine, headLine}
 use Rattle.sheet.specs.Sheet.{fieldOf, startOf, headOf}
 use Rattle.sheet.specs.Written.{Text, IsText, IsWord, basisOf, typeOf, lineOf, headText, headAt, headWritten}
 use Rattle.sheet.specs.declared.line.Line.{Line}
@@ -123,7 +123,7 @@ unfolding headOf startOf fieldOf
 head-is l t a b c d e f g p q r s u v w = rw (p, q, r, s, u, v, w)
 
 head-at : (l : List ℕ) (t : Text) (r : List ℕ) → IsText t → Reads l 0 (headText t ++ r) → (next : ℕ) × (headOf l ≡ headAt t next) × Reads l next r
-unfolding headText headLine
+unfolding headText headLine laterLine
 head-at l t r i h =
     let a = decimal-line l 0 (ascii "degree=") (t .degree) _ (simp append-assoc at h) (i .degree) in
     let b = basis-line l (a .0) (t .basis) _ (a .2) (i .basis) in

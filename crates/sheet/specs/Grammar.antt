@@ -57,16 +57,20 @@ unfoldable pub typeLine : List ℕ → ℕ → Line
 typeLine l at =
     cond (standsAt l at (ascii "type=cylinder\n")) (Value 2 (at + 14)) (eitherLine l at (ascii "type=flat\n") (ascii "type=ribbon\n"))
 
+-- the lines behind the type, by number
+unfoldable pub laterLine : List ℕ → ℕ → ℕ → Line
+laterLine l number at =
+    cond (eqb number 3) (wordLine l at (ascii "width0="))
+    (cond (eqb number 4) (wordLine l at (ascii "width1="))
+    (cond (eqb number 5) (decimalLine l at (ascii "splitdepth="))
+    (eitherLine l at (ascii "reverse=0\n") (ascii "reverse=1\n"))))
+
 -- the seven lines of the head, by number
 unfoldable pub headLine : List ℕ → ℕ → ℕ → Line
 headLine l number at =
     cond (eqb number 0) (decimalLine l at (ascii "degree="))
     (cond (eqb number 1) (eitherLine l at (ascii "basis=bezier\n") (ascii "basis=bspline\n"))
-    (cond (eqb number 2) (typeLine l at)
-    (cond (eqb number 3) (wordLine l at (ascii "width0="))
-    (cond (eqb number 4) (wordLine l at (ascii "width1="))
-    (cond (eqb number 5) (decimalLine l at (ascii "splitdepth="))
-    (eitherLine l at (ascii "reverse=0\n") (ascii "reverse=1\n")))))))
+    (cond (eqb number 2) (typeLine l at) (laterLine l number at)))
 
 -- ---- a row of floats: a key, and n times eight hexadecimal digits, with commas between and LF at the end
 

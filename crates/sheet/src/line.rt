@@ -2,7 +2,7 @@
 ghost use mathlib.Core.Path.{_≡_};
 ghost use Prim.Native.Nat.{_+_, _≤_};
 ghost use lib.ListN.{length};
-ghost use Rattle.sheet.specs.Grammar.{far, longestKey, decimalAt, decimalLine, wordLineAt, wordLine, eitherLine, typeLine, headLine};
+ghost use Rattle.sheet.specs.Grammar.{far, longestKey, decimalAt, decimalLine, wordLineAt, wordLine, eitherLine, typeLine, laterLine, headLine};
 use text::digit_at;
 use text::is_byte;
 use text::is_word;
@@ -94,6 +94,22 @@ fn type_line(s: &[u8], at: usize) -> Line
     }
 }
 
+// The lines behind the type, by number.
+fn later_line(s: &[u8], number: u8, at: usize) -> Line
+    requires { ⌜ at ≤ far ⌝ }
+    ensures { λ r. ⌜ r ≡ laterLine (now (s .entry)) number at ⌝ }
+{
+    if number == 3 {
+        word_line(s, at, b"width0=")
+    } else if number == 4 {
+        word_line(s, at, b"width1=")
+    } else if number == 5 {
+        decimal_line(s, at, b"splitdepth=")
+    } else {
+        either_line(s, at, b"reverse=0\n", b"reverse=1\n")
+    }
+}
+
 // The seven lines of the head, by number.
 pub fn head_line(s: &[u8], number: u8, at: usize) -> Line
     requires { ⌜ at ≤ far ⌝ }
@@ -105,13 +121,7 @@ pub fn head_line(s: &[u8], number: u8, at: usize) -> Line
         either_line(s, at, b"basis=bezier\n", b"basis=bspline\n")
     } else if number == 2 {
         type_line(s, at)
-    } else if number == 3 {
-        word_line(s, at, b"width0=")
-    } else if number == 4 {
-        word_line(s, at, b"width1=")
-    } else if number == 5 {
-        decimal_line(s, at, b"splitdepth=")
     } else {
-        either_line(s, at, b"reverse=0\n", b"reverse=1\n")
+        later_line(s, number, at)
     }
 }

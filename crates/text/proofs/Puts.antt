@@ -3,12 +3,13 @@ use mathlib.Core.Bool.{Bool, true, false}
 use mathlib.Core.Logic.{_⊎_, inl, inr, ⊎-elim}
 use mathlib.Core.Path.{_≡_, refl, sym, ap, _∙_}
 use mathlib.Core.List.{List, [], _∷_, _++_}
-use Prim.Native.Nat.{ℕ, zero, suc, _+_, _-_, _≤_}
+use Prim.Native.Nat.{ℕ, zero, suc, _+_, _-_, _≤_, _<_}
 use native.Mathlib.Nat.{add-assoc, sub-zero, suc-sub-suc, min-le-left}
 use native.Mathlib.Omega.{arith}
 use borrow.Author.Tests.{leb-true, leb-false}
 use lib.Dec.{leb}
 use lib.ListN.{length, take, length-append, length-take}
+use lib.Seq.{take-all}
 use Rattle.limits.specs.List.{over}
 use Rattle.limits.proofs.Lists.{over-nil, over-append, length-over}
 use Rattle.text.specs.Put.{fitting, Put}
@@ -60,3 +61,11 @@ then {d} {at} {s} {x} {next} {t} {y} {end} p q =
 -- the same text by another name
 pub renamed : {d : List ℕ} {at : ℕ} {s t x : List ℕ} {next : ℕ} → s ≡ t → Put d at s x next → Put d at t x next
 renamed e p = rw (← e) p
+
+-- where the place behind is before the end, nothing was cut
+pub whole : {d : List ℕ} {at : ℕ} {s x : List ℕ} {next : ℕ} → Put d at s x next → next < length d → (x ≡ over d at s) × (next ≡ at + length s)
+unfolding fitting
+whole {d} {at} {s} {x} {next} p h =
+    let k = length d - at in
+    let all : take k s ≡ s = take-all k s (omega (arith, p .place, length-take k s)) in
+    (p .list ∙ ap (over d at) all, p .place ∙ ap (λ (r : List ℕ). at + length r) all)
