@@ -13,6 +13,7 @@ use crate::places::WIDTH1;
 use crate::put::DONE;
 use crate::put::put_status;
 use create::Created;
+use create::MOST_CURVES;
 use curve::FLOATS;
 use lines::ANSWER_WORDS;
 use lines::Floats;
@@ -20,9 +21,7 @@ use lines::Out;
 use lines::Words;
 use lines::put_word;
 
-// The most curves of a call, and the most floats that a list has behind them.
-const MOST_CURVES: usize = 1024;
-
+// The most floats that a list has behind the curves.
 const SPARE: usize = 100;
 
 const LIST_ROOM: usize = FLOATS * MOST_CURVES + SPARE;

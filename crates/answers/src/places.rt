@@ -1,13 +1,11 @@
 // The places of a line's inputs (oracle/README.md): each part stands behind the one before.
 use crate::kind::Kind;
 use curve::FLOATS;
+use geometry::POINT_FLOATS;
 use geometry::RAY_FLOATS;
 use lines::LINE_WORDS;
 use lines::Words;
 use matrix::MATRIX_FLOATS;
-
-// How many floats a point or a vector is.
-const POINT_FLOATS: usize = 3;
 
 // sqrt: a float.
 pub const X: usize = 0;

@@ -61,11 +61,18 @@ greatestWidth = ofBits binary32 0x44800000
 unfoldable pub limitWrong : List Float → Float → Float → Bool
 limitWrong l w0 w1 = not (allWithin l && widthWithin w0 leastWidth greatestWidth && widthWithin w1 leastWidth greatestWidth)
 
+-- 256 points and 1,024 curves
+abbrev pub mostPoints : ℕ
+mostPoints = 256
+
+abbrev pub mostCurves : ℕ
+mostCurves = 1024
+
 -- 6 to 8, for a list with room for so many floats
 unfoldable pub limitRefusals : List Float → Params → ℕ → Table
 limitRefusals l p room =
     let n = length l / 3 in
-    (ltb 256 n || ltb 1024 (curveCount n p), 6) ∷ (limitWrong l (p .width0) (p .width1), 7) ∷ (ltb room (floats * curveCount n p), 8) ∷ []
+    (ltb mostPoints n || ltb mostCurves (curveCount n p), 6) ∷ (limitWrong l (p .width0) (p .width1), 7) ∷ (ltb room (floats * curveCount n p), 8) ∷ []
 
 -- 1 to 8
 unfoldable pub createRefusals : List Float → Params → ℕ → Table

@@ -7,7 +7,7 @@ use Rattle.float.specs.Arith.{0f, 1f, 3f, 6f}
 use Rattle.limits.specs.List.{upTo}
 use Rattle.curve.specs.Layout.{floats}
 use Rattle.create.specs.Basis.{segmentAt}
-use Rattle.create.specs.Create.{paramsOf, createdOf}
+use Rattle.create.specs.Create.{mostCurves, paramsOf, createdOf}
 use Rattle.create.specs.declared.create.Created.{Created}
 use Rattle.create.specs.declared.create.Created.the-variants.{Curves, Refused}
 
@@ -20,9 +20,9 @@ numbersOf (Refused k) = k ∷ []
 abbrev pub rowOfPoints : ℕ → List Float
 rowOfPoints n = upTo (λ i. ofInt binary32 (pos i) ∷ 0f ∷ 0f ∷ []) n
 
--- what n such points are answered, in a list with room for 1,024 curves
+-- what n such points are answered, in a list with room for the most curves
 abbrev pub replyTo : ℕ → ℕ → ℕ → ℕ → List ℕ
-replyTo n degree basis splitdepth = numbersOf (createdOf (rowOfPoints n) (paramsOf degree basis 0 1f 1f splitdepth) (1024 * floats))
+replyTo n degree basis splitdepth = numbersOf (createdOf (rowOfPoints n) (paramsOf degree basis 0 1f 1f splitdepth) (mostCurves * floats))
 
 -- the inner x of the quadratic Bezier curve x = 0, 3, 6
 abbrev pub innerX : List ℕ

@@ -6,3 +6,4 @@ mod refusal;
 
 pub use create::Created;
 pub use create::create_curve_shape;
+pub use refusal::MOST_CURVES;

@@ -9,6 +9,11 @@ use limits::LARGEST;
 use limits::is_width_within;
 use limits::is_within;
 
+// The most points and the most curves of a call.
+const MOST_POINTS: usize = 256;
+
+pub const MOST_CURVES: usize = 1024;
+
 // Whether the floats are not in threes, or the points do not make whole segments.
 fn is_count_wrong(floats: usize, degree: u32, basis: u32) -> bool
     requires { ⌜ (2 ≤ degree) × (degree ≤ 3) ⌝ }
@@ -89,11 +94,11 @@ fn limit_refusal(points: &[f32], p: Params, room: usize) -> u8
     ensures { λ r. ⌜ r ≡ firstOf (limitRefusals (now (points .entry)) p room) ⌝ }
 {
     let n = points.len() / 3;
-    if n > 256 {
+    if n > MOST_POINTS {
         return 6;
     }
     let curves = curve_count(n, p);
-    if curves > 1024 {
+    if curves > MOST_CURVES {
         return 6;
     }
     if is_limit_wrong(points, p.width0, p.width1) {

@@ -4,6 +4,7 @@ ghost use mathlib.Core.Bool.{cond};
 ghost use lib.ListN.{length};
 ghost use Rattle.sheet.specs.Sheet.{sheetOf, listOf, replyWithin};
 ghost use Rattle.curve_c.specs.Calls.{replyStatus, beamsAfter, countsAfter};
+use sheet::RAYS_FLOATS;
 use sheet::Reply;
 
 fn number_of(flag: bool) -> u32
@@ -13,7 +14,12 @@ fn number_of(flag: bool) -> u32
 }
 
 // Answers 0 with what a sheet holds, or its refusal with the line.
-fn put_reply(reply: Reply, rays: [f32; 512], beams: &mut [f32; 512], out: &mut [u32; 4]) -> u32
+fn put_reply(
+    reply: Reply,
+    rays: [f32; RAYS_FLOATS],
+    beams: &mut [f32; RAYS_FLOATS],
+    out: &mut [u32; 4],
+) -> u32
     requires { ⌜ replyWithin reply ⌝ }
     ensures { λ r. ⌜ r ≡ replyStatus reply ⌝ }
     ensures { λ _. ⌜ now (beams .exit) ≡ beamsAfter reply rays (now (beams .entry)) ⌝ }
@@ -36,7 +42,7 @@ fn put_reply(reply: Reply, rays: [f32; 512], beams: &mut [f32; 512], out: &mut [
 pub extern "C" fn curve_sheet(
     bytes: &[u8],
     list: &mut [f32],
-    beams: &mut [f32; 512],
+    beams: &mut [f32; RAYS_FLOATS],
     out: &mut [u32; 4],
 ) -> u32
     ensures { λ r. ⌜ r ≡ replyStatus (sheetOf (now (bytes .entry)) (length (now (list .entry))) .reply) ⌝ }

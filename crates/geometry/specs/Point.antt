@@ -22,6 +22,10 @@ difference2 p q = record { x = p .x ⊖ q .x; y = p .y ⊖ q .y }
 
 -- ---- Point3
 
+-- how many floats a point or a vector is
+abbrev pub pointFloats : ℕ
+pointFloats = 3
+
 -- three floats from a place on
 unfoldable pub pointFrom : List Float → ℕ → Point3f
 pointFrom l at = record { x = getD l at nan; y = getD l (at + 1) nan; z = getD l (at + 2) nan }

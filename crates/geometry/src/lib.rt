@@ -15,6 +15,7 @@ pub use pbrt::clamp;
 pub use pbrt::gamma;
 pub use pbrt::lerp;
 pub use point::DividedPoint;
+pub use point::POINT_FLOATS;
 pub use point::Point2f;
 pub use point::Point3f;
 pub use point::point_from;

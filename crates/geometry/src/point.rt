@@ -29,6 +29,9 @@ pub struct Point3f {
     pub z: f32,
 }
 
+// How many floats a point or a vector is.
+pub const POINT_FLOATS: usize = 3;
+
 // The point whose coordinates start at a place among floats. It asks that they are there: it reads for other crates.
 pub fn point_from(s: &[f32], at: usize) -> Point3f
     requires { ⌜ at + 3 ≤ length (now s) ⌝ }

@@ -12,6 +12,7 @@ use crate::line::put_miss;
 use crate::line::put_pieces;
 use crate::line::put_refused;
 use crate::line::put_refused_sheet;
+use create::MOST_CURVES;
 use curve::FLOATS;
 use geometry::RAY_FLOATS;
 use geometry::Ray;
@@ -21,9 +22,6 @@ use libc::STDOUT_FILENO;
 use matrix::Matrix4x4;
 use sheet::Reply;
 use sheet::Sheet;
-
-// 01: at most 1,024 pieces.
-const MOST_PIECES: usize = 1024;
 
 // Writes what stands before a place.
 fn print_before(out: &[u8], at: usize) {
@@ -136,7 +134,7 @@ fn print_reply(read: Sheet, list: &[f32])
 
 // Prints the report of a sheet's bytes.
 pub fn print_sheet(bytes: &[u8]) {
-    let mut list = [0.0f32; MOST_PIECES * FLOATS];
+    let mut list = [0.0f32; MOST_CURVES * FLOATS];
     let read = sheet::read_sheet(bytes, &mut list);
     print_reply(read, &list);
 }

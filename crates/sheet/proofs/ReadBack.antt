@@ -16,7 +16,8 @@ use Rattle.text.specs.Ascii.{ascii}
 use Rattle.text.specs.Digits.{digitChar, decimalIn, decimalText, fourText, hexText}
 use Rattle.text.proofs.Places.{Reads, reads-start}
 use Rattle.sheet.specs.Grammar.{rowSize}
-use Rattle.sheet.specs.Sheet.{headOf, pointKey, rayKey, pointFloats, mostPoints, mostRays, mostBytes, raysFrom, raysRead, pointCount, raysAt, rayCount, isWhole, pointsOf, raysOf, noRays, paramsIn, withCurves, sheetWithin, sheetOf, listWithin, listOf}
+use Rattle.geometry.specs.Point.{pointFloats}
+use Rattle.sheet.specs.Sheet.{headOf, pointKey, rayKey, roomPoints, mostRays, mostBytes, raysFrom, raysRead, pointCount, raysAt, rayCount, isWhole, pointsOf, raysOf, noRays, paramsIn, withCurves, sheetWithin, sheetOf, listWithin, listOf}
 use Rattle.sheet.specs.Written.{Text, IsText, IsWord, IsRowOf, basisOf, typeOf, lineOf, headText, commas, rowsText, textOf, rowsFloats, headAt, headWritten}
 use Rattle.sheet.specs.declared.head.Cursor.{Cursor}
 use Rattle.sheet.specs.declared.head.Head.{Head}
@@ -43,7 +44,7 @@ rows-whole :
 unfolding pointCount raysAt raysFrom rayCount isWhole pointsOf raysRead raysOf rowSize ascii
 rows-whole l at t i h c q =
     let x = rows-back l at pointKey pointFloats (t .points) (rowsText rayKey (t .rays)) h (i .points) (lit< tt) in
-    let p = rows-count l at pointKey pointFloats (t .points) mostPoints (x .0) (i .most-points) (ray-no-point l _ (t .rays) (x .2)) in
+    let p = rows-count l at pointKey pointFloats (t .points) roomPoints (x .0) (i .most-points) (ray-no-point l _ (t .rays) (x .2)) in
     let y = rows-back l (at + length (t .points) * rowSize pointKey pointFloats) rayKey rayFloats (t .rays) [] (rw (append-nil (rowsText rayKey (t .rays))) (x .2)) (i .rays) (lit< tt) in
     let r = rows-count l (at + length (t .points) * rowSize pointKey pointFloats) rayKey rayFloats (t .rays) mostRays (y .0) (i .most-rays) (end-no-row l _ rayKey rayFloats (y .2) (lit< tt)) in
     let s = lt-ltb 0 (length (t .points)) (i .some-point) in

@@ -15,7 +15,8 @@ use Rattle.limits.specs.List.{over, upTo}
 use Rattle.create.specs.declared.create.Created.{Created}
 use Rattle.limits.proofs.Lists.{over-nil, over-length, length-upTo}
 use Rattle.sheet.specs.Grammar.{rowSize, runBelow, rowsFrom, floatsFrom}
-use Rattle.sheet.specs.Sheet.{pointKey, rayKey, pointFloats, mostPoints, mostRays, mostBytes, raysFrom, raysRead, pointCount, pointsOf, raysAt, rayCount, raysOf, linesRight, isWhole, noRays, refusedWith, paramsIn, withCurves, headOf, sheetWithin, listWithin, sheetOf, listOf}
+use Rattle.geometry.specs.Point.{pointFloats}
+use Rattle.sheet.specs.Sheet.{pointKey, rayKey, roomPoints, mostRays, mostBytes, raysFrom, raysRead, pointCount, pointsOf, raysAt, rayCount, raysOf, linesRight, isWhole, noRays, refusedWith, paramsIn, withCurves, headOf, sheetWithin, listWithin, sheetOf, listOf}
 use Rattle.sheet.specs.declared.head.Cursor.{Cursor}
 use Rattle.sheet.specs.declared.head.Head.{Head}
 use Rattle.sheet.specs.declared.Sheet.{Sheet}
@@ -69,9 +70,9 @@ cond-most : (b : Bool) (x most : ℕ) → x ≤ most → cond b x 0 ≤ most
 cond-most true x most h = h
 cond-most false x most h = omega arith
 
-pub points-most : (l : List ℕ) (c : Cursor) (p : ℕ) → p ≡ pointCount l c → p ≤ mostPoints
+pub points-most : (l : List ℕ) (c : Cursor) (p : ℕ) → p ≡ pointCount l c → p ≤ roomPoints
 unfolding pointCount rowsFrom
-points-most l c p e = rw e (cond-most (c .ok) _ mostPoints (run-most mostPoints _))
+points-most l c p e = rw e (cond-most (c .ok) _ roomPoints (run-most roomPoints _))
 
 pub rays-most : (l : List ℕ) (at points n : ℕ) → n ≡ raysFrom l at points → n ≤ mostRays
 unfolding raysFrom rowsFrom
@@ -88,7 +89,7 @@ unfolding over
 points-lent l c d p e = take-at (pointsOf l c) _ (p * pointFloats) (points-length l c ∙ ap (λ k. k * pointFloats) (sym e))
 
 -- they are within the array
-pub points-room : (l : List ℕ) (c : Cursor) (d out : List Float) (p : ℕ) → p ≡ pointCount l c → out ≡ over d 0 (pointsOf l c) → mostPoints * pointFloats ≤ length d → p * pointFloats ≤ length out
+pub points-room : (l : List ℕ) (c : Cursor) (d out : List Float) (p : ℕ) → p ≡ pointCount l c → out ≡ over d 0 (pointsOf l c) → roomPoints * pointFloats ≤ length d → p * pointFloats ≤ length out
 unfolding pointsOf floatsFrom
 points-room l c d out p e q room =
     let m = points-most l c p e in

@@ -7,6 +7,7 @@ use lib.Ieee.{Float, binary32, ofBits}
 use lib.ListN.{length, replicate}
 use Rattle.float.specs.Arith.{0f}
 use Rattle.create.specs.Create.{paramsOf, createdOf, listAfter}
+use Rattle.geometry.specs.Point.{pointFloats}
 use Rattle.geometry.specs.Ray.{rayFloats}
 use Rattle.limits.specs.List.{over}
 use Rattle.create.specs.declared.create.Params.{Params}
@@ -67,13 +68,9 @@ pointKey = ascii "point="
 abbrev pub rayKey : List ℕ
 rayKey = ascii "beam="
 
--- how many floats a point is
-abbrev pub pointFloats : ℕ
-pointFloats = 3
-
 -- more points than 65,536 bytes hold, and as many rays as a sheet may have
-abbrev pub mostPoints : ℕ
-mostPoints = 2048
+abbrev pub roomPoints : ℕ
+roomPoints = 2048
 
 abbrev pub mostRays : ℕ
 mostRays = 64
@@ -88,7 +85,7 @@ raysRead l at points = floatsFrom l at rayKey rayFloats (raysFrom l at points)
 module _ (l : List ℕ) (c : Cursor) where
   -- the points start behind the head, and there is none where the head is wrong
   unfoldable pub pointCount : ℕ
-  pointCount = cond (c .ok) (rowsFrom l (c .at) pointKey pointFloats mostPoints) 0
+  pointCount = cond (c .ok) (rowsFrom l (c .at) pointKey pointFloats roomPoints) 0
 
   unfoldable pub pointsOf : List Float
   pointsOf = floatsFrom l (c .at) pointKey pointFloats pointCount
@@ -158,7 +155,7 @@ listOf l list = cond (ltb mostBytes (length l)) list (listWithin l list)
 
 -- the last line that can be wrong: before it come the seven lines of the head, the points and the rays
 abbrev pub lastLine : ℕ
-lastLine = 7 + mostPoints + mostRays + 1
+lastLine = 7 + roomPoints + mostRays + 1
 
 -- how large the numbers of a reply are
 abbrev pub replyWithin : Reply → Type 0

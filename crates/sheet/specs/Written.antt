@@ -9,7 +9,8 @@ use lib.ListN.{length}
 use Rattle.text.specs.Ascii.{ascii}
 use Rattle.text.specs.Digits.{decimalText, hexText}
 use Rattle.geometry.specs.Ray.{rayFloats}
-use Rattle.sheet.specs.Sheet.{pointKey, rayKey, pointFloats, mostPoints, mostRays}
+use Rattle.geometry.specs.Point.{pointFloats}
+use Rattle.sheet.specs.Sheet.{pointKey, rayKey, roomPoints, mostRays}
 use Rattle.sheet.specs.declared.head.Head.{Head}
 
 -- ---- what is written
@@ -48,7 +49,7 @@ pub record IsText (t : Text) : Type 0 where
   pub splitdepth : t .splitdepth < 100
   pub reverse : t .reverse ≤ 1
   pub some-point : 0 < length (t .points)
-  pub most-points : length (t .points) ≤ mostPoints
+  pub most-points : length (t .points) ≤ roomPoints
   pub most-rays : length (t .rays) ≤ mostRays
   pub points : AllOf (IsRowOf pointFloats) (t .points)
   pub rays : AllOf (IsRowOf rayFloats) (t .rays)

@@ -6,7 +6,8 @@ ghost use lib.ListN.{length};
 ghost use Rattle.geometry.specs.Ray.{rayFloats};
 ghost use Rattle.create.specs.Create.{createdOf, listAfter};
 ghost use Rattle.limits.specs.List.{over};
-ghost use Rattle.sheet.specs.Sheet.{pointCount, pointsOf, pointFloats, mostBytes, mostPoints, mostRays, raysFrom, raysRead, refusedWith, paramsIn, withCurves, sheetWithin, listWithin, sheetOf, listOf};
+ghost use Rattle.geometry.specs.Point.{pointFloats};
+ghost use Rattle.sheet.specs.Sheet.{pointCount, pointsOf, mostBytes, roomPoints, mostRays, raysFrom, raysRead, refusedWith, paramsIn, withCurves, sheetWithin, listWithin, sheetOf, listOf};
 
 mod head;
 mod line;
@@ -14,6 +15,7 @@ mod reader;
 mod rows;
 
 use create::Created;
+use geometry::POINT_FLOATS;
 use geometry::RAY_FLOATS;
 use head::Cursor;
 use head::Head;
@@ -23,12 +25,12 @@ use rows::read_rows;
 
 const MOST_BYTES: usize = 65536;
 
-const POINT_FLOATS: usize = 3;
-
 // More points than so many bytes hold, and as many rays as a sheet may have.
-const MOST_POINTS: usize = 2048;
+const ROOM_POINTS: usize = 2048;
 
 pub const MOST_RAYS: usize = 64;
+
+pub const RAYS_FLOATS: usize = MOST_RAYS * RAY_FLOATS;
 
 // How many bytes a point's and a ray's line has: the key, the floats.
 const POINT_SIZE: usize = 6 + POINT_FLOATS * FLOAT_SIZE;
@@ -45,7 +47,7 @@ pub enum Reply {
 // The reply, and eight floats for each ray, the rest 0.
 pub struct Sheet {
     pub reply: Reply,
-    pub rays: [f32; MOST_RAYS * RAY_FLOATS],
+    pub rays: [f32; RAYS_FLOATS],
 }
 
 fn refused(number: u8, line: usize) -> Sheet
@@ -53,18 +55,18 @@ fn refused(number: u8, line: usize) -> Sheet
 {
     Sheet {
         reply: Reply::Refused(number, line),
-        rays: [0.0f32; MOST_RAYS * RAY_FLOATS],
+        rays: [0.0f32; RAYS_FLOATS],
     }
 }
 
 // The points behind the head, and how many there are.
 fn read_points(s: &[u8], c: Cursor, out: &mut [f32]) -> usize
-    requires { ⌜ (c .at ≤ 2 * mostBytes) × (mostPoints * pointFloats ≤ length (now out)) ⌝ }
+    requires { ⌜ (c .at ≤ 2 * mostBytes) × (roomPoints * pointFloats ≤ length (now out)) ⌝ }
     ensures { λ r. ⌜ r ≡ pointCount (now (s .entry)) c ⌝ }
     ensures { λ _. ⌜ now (out .exit) ≡ over (now (out .entry)) 0 (pointsOf (now (s .entry)) c) ⌝ }
 {
     if c.ok {
-        read_rows(s, c.at, b"point=", POINT_FLOATS, MOST_POINTS, out)
+        read_rows(s, c.at, b"point=", POINT_FLOATS, ROOM_POINTS, out)
     } else {
         0
     }
@@ -84,13 +86,7 @@ fn read_rays(s: &[u8], at: usize, points: usize, out: &mut [f32]) -> usize
 }
 
 // The curves of a whole sheet.
-fn create(
-    h: Head,
-    points: &[f32],
-    list: &mut [f32],
-    n: usize,
-    rays: [f32; MOST_RAYS * RAY_FLOATS],
-) -> Sheet
+fn create(h: Head, points: &[f32], list: &mut [f32], n: usize, rays: [f32; RAYS_FLOATS]) -> Sheet
     ensures { λ r. ⌜ r ≡ withCurves h n rays (createdOf (now (points .entry)) (paramsIn h) (length (now (list .entry)))) ⌝ }
     ensures { λ _. ⌜ now (list .exit) ≡ listAfter (now (points .entry)) (paramsIn h) (now (list .entry)) ⌝ }
 {
@@ -121,8 +117,8 @@ fn read_within(s: &[u8], list: &mut [f32]) -> Sheet
     ensures { λ _. ⌜ now (list .exit) ≡ listWithin (now (s .entry)) (now (list .entry)) ⌝ }
 {
     let head = read_head(s);
-    let mut points = [0.0f32; MOST_POINTS * POINT_FLOATS];
-    let mut rays = [0.0f32; MOST_RAYS * RAY_FLOATS];
+    let mut points = [0.0f32; ROOM_POINTS * POINT_FLOATS];
+    let mut rays = [0.0f32; RAYS_FLOATS];
     let p = read_points(s, head.cursor, &mut points);
     let at = head.cursor.at + p * POINT_SIZE;
     let n = read_rays(s, at, p, &mut rays);

@@ -5,7 +5,7 @@ ghost use lib.ListN.{length};
 ghost use Rattle.geometry.specs.Ray.{rayFloats};
 ghost use Rattle.limits.specs.List.{over};
 ghost use Rattle.sheet.specs.Grammar.{far, longestKey, separator, isFloats, isRow, floatAt, floatsAt, rowsFrom, floatsFrom};
-ghost use Rattle.sheet.specs.Sheet.{mostBytes, mostPoints};
+ghost use Rattle.sheet.specs.Sheet.{mostBytes, roomPoints};
 use text::is_byte;
 use text::is_word;
 use text::stands_at;
@@ -69,7 +69,7 @@ fn put_floats(s: &[u8], at: usize, n: usize, out: &mut [f32], to: usize)
 
 // Reads the rows that follow each other from a place on, at most so many, and answers how many there are.
 pub fn read_rows(s: &[u8], at: usize, key: &[u8], n: usize, most: usize, out: &mut [f32]) -> usize
-    requires { ⌜ (at ≤ 2 * mostBytes) × (length (now key) ≤ longestKey) × (n ≤ rayFloats) × (most ≤ mostPoints) × (most * n ≤ length (now out)) ⌝ }
+    requires { ⌜ (at ≤ 2 * mostBytes) × (length (now key) ≤ longestKey) × (n ≤ rayFloats) × (most ≤ roomPoints) × (most * n ≤ length (now out)) ⌝ }
     ensures { λ r. ⌜ r ≡ rowsFrom (now (s .entry)) at (now (key .entry)) n most ⌝ }
     ensures { λ r. ⌜ now (out .exit) ≡ over (now (out .entry)) 0 (floatsFrom (now (s .entry)) at (now (key .entry)) n r) ⌝ }
 {

@@ -11,7 +11,8 @@ use lib.Seq.{length-take-le}
 use Rattle.float.specs.Arith.{0f}
 use Rattle.text.specs.Ascii.{ascii}
 use Rattle.sheet.specs.Grammar.{rowSize}
-use Rattle.sheet.specs.Sheet.{mostPoints, mostRays, pointFloats}
+use Rattle.geometry.specs.Point.{pointFloats}
+use Rattle.sheet.specs.Sheet.{roomPoints, mostRays}
 use Rattle.sheet.proofs.Fields.{head-short}
 use Rattle.sheet.proofs.Replies.{points-most, rays-most, points-lent, points-room, within-whole, within-wrong}
 use Rattle.sheet.proofs.read_within.Statement.{statement}
@@ -21,7 +22,7 @@ read-points-requires : tie.Need-read-points-requires
 read-points-requires c κs = (omega (arith, head-short _ _ (c .before .read-head .ensures) .0), search needs)
 
 -- the head is short, and there are few points
-short : (c : tie.After-points2) → (c .before .before .before .read-head .result .cursor .at ≤ 210) × (c .before .before .before .read-head .result .cursor .lines ≤ 7) × (c .before .read-points .result ≤ mostPoints)
+short : (c : tie.After-points2) → (c .before .before .before .read-head .result .cursor .at ≤ 210) × (c .before .before .before .read-head .result .cursor .lines ≤ 7) × (c .before .read-points .result ≤ roomPoints)
 short c = let h = head-short _ _ (c .before .before .before .read-head .ensures) in (h .0, h .1, points-most _ _ _ (c .before .read-points .ensures .0))
 
 mul-at : tie.Need-mul-at
@@ -52,7 +53,7 @@ array-share-prefix-points c = omega (arith, short (c .before .before .before .be
 slice-aggregate-create : tie.Need-slice-aggregate-create
 slice-aggregate-create c =
     let points = c .before .before .before .before .before .before .before in
-    sym (length-take-le _ _ (points-room _ _ _ _ _ (points .read-points .ensures .0) (points .read-points .ensures .1) (le-of-eq (sym (length-replicate (mostPoints * pointFloats) 0f)))))
+    sym (length-take-le _ _ (points-room _ _ _ _ _ (points .read-points .ensures .0) (points .read-points .ensures .1) (le-of-eq (sym (length-replicate (roomPoints * pointFloats) 0f)))))
 
 add-refused : tie.Need-add-refused
 add-refused c = record { fits = omega (arith, short (c .before .before .before .before .before .before)) }

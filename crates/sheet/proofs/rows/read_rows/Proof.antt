@@ -16,7 +16,7 @@ use Rattle.limits.proofs.Lists.{over-nil, over-next, over-length}
 use Rattle.text.specs.Bytes.{allBelow}
 use Rattle.sheet.specs.Grammar.{far, longestKey, floatSize, isRow, rowSize, floatsAt, rowsFrom, floatsFrom}
 use Rattle.sheet.proofs.Runs.{run-is}
-use Rattle.sheet.specs.Sheet.{mostBytes, mostPoints}
+use Rattle.sheet.specs.Sheet.{mostBytes, roomPoints}
 use Rattle.text.proofs.Below.{all-next}
 use Rattle.sheet.proofs.Floats.{length-floats, small, next-in}
 use Rattle.sheet.proofs.rows.read_rows.Statement.{statement}
@@ -42,8 +42,8 @@ unfolding rowSize allBelow upTo
 loop-holds c = let s = c .before .before .before in (omega arith, refl, refl, sym (over-nil (now (s .args .out)) 0), refl)
 
 -- how far the rows reach
-reach : (j most size key n at : ℕ) → size ≡ key + n * floatSize → key ≤ longestKey → n ≤ rayFloats → most ≤ mostPoints → j < most → at ≤ 2 * mostBytes → at + j * size ≤ far
-reach j most size key n at e k h m l a = omega (arith, small j size mostPoints (longestKey + rayFloats * floatSize) (omega arith) (omega arith))
+reach : (j most size key n at : ℕ) → size ≡ key + n * floatSize → key ≤ longestKey → n ≤ rayFloats → most ≤ roomPoints → j < most → at ≤ 2 * mostBytes → at + j * size ≤ far
+reach j most size key n at e k h m l a = omega (arith, small j size roomPoints (longestKey + rayFloats * floatSize) (omega arith) (omega arith))
 
 module _ (t : tie.In-loop Inv-loop μ-loop) where
   abbrev l : tie.At-loop Inv-loop μ-loop
@@ -71,7 +71,7 @@ add-put-floats : tie.Need-add-put-floats Inv-loop μ-loop
 add-put-floats c = let t = c .before .before in record { fits = omega (arith, near t, s t .pre .1) }
 
 mul-put-floats : tie.Need-mul-put-floats Inv-loop μ-loop
-mul-put-floats c = let t = c .before .before .before in record { fits = omega (arith, fits t, small (l t .loop .j) (s t .args .n) mostPoints rayFloats (omega (arith, t .loop-test .taken, s t .pre .3)) (s t .pre .2)) }
+mul-put-floats c = let t = c .before .before .before in record { fits = omega (arith, fits t, small (l t .loop .j) (s t .args .n) roomPoints rayFloats (omega (arith, t .loop-test .taken, s t .pre .3)) (s t .pre .2)) }
 
 put-floats-requires : tie.Need-put-floats-requires Inv-loop μ-loop
 put-floats-requires c κs =
