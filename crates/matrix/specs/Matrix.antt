@@ -4,7 +4,7 @@ use mathlib.Core.List.{List, [], _∷_}
 use lib.ListN.{getD}
 use lib.Ieee.{Float, nan}
 use Rattle.float.specs.Arith.{0f, 1f}
-use Rattle.matrix.specs.Inverse.{inverseFlat}
+use Rattle.inverse.specs.Inverse.{inverseFlat}
 use Rattle.matrix.specs.declared.Row.{Row}
 use Rattle.matrix.specs.declared.Matrix4x4.{Matrix4x4}
 

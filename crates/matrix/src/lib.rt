@@ -1,10 +1,8 @@
-// `Matrix4x4` of pbrt-rust, src/core/transform.rs, and its inverse.
+// `Matrix4x4` of pbrt-rust, src/core/transform.rs: a struct of rows for callers. Its inverse is worked out on sixteen floats, in the crate `inverse`.
 ghost use mathlib.Core.Path.{_≡_};
 ghost use Prim.Native.Nat.{_+_, _≤_};
 ghost use lib.ListN.{length};
 ghost use Rattle.matrix.specs.Matrix.{matrixFloats, identity, flat, rowFrom, matrixFrom, inverseOf};
-
-mod inverse;
 
 pub struct Row {
     pub c0: f32,

@@ -1,0 +1,222 @@
+// The inverse of a 4x4 matrix, sixteen floats row by row: Gauss-Jordan elimination with full pivoting, operation by
+// operation as Matrix4x4::inverse of pbrt-rust (src/core/transform.rs). A NaN is never taken for a pivot, the later
+// of two equal entries is, and a singular matrix is inverted onward, to infinities and NaNs.
+ghost use mathlib.Core.Path.{_≡_};
+ghost use mathlib.Core.Logic.{_≢_};
+ghost use Prim.Native.Nat.{_<_};
+ghost use Rattle.inverse.specs.Inverse.{Placed, AtMost, columnTaken, lookEntry, lookAlong, lookRow, pivotOf, swapAt, exchangeRows, swapRows, butAt, scaleRow, cleared, clearRow, eliminated, turned, exchangeColumns, swapColumns, inverseFlat};
+
+// The pivot found so far: big, irow and icol.
+pub struct Pivot {
+    pub big: f32,
+    pub row: usize,
+    pub col: usize,
+}
+
+// The entry x at row j and column k, whose mark is ipiv[k].
+fn look(p: Pivot, mark: usize, j: usize, k: usize, x: f32) -> Pivot
+    requires { ⌜ Placed p × (j < 4) × (k < 4) ⌝ }
+    ensures { λ r. ⌜ (r ≡ lookEntry p mark j k x) × Placed r ⌝ }
+{
+    if mark == 0 {
+        let a = float::abs(x);
+        if a >= p.big {
+            return Pivot {
+                big: a,
+                row: j,
+                col: k,
+            };
+        }
+    }
+    p
+}
+
+fn look_along(p: Pivot, m: &[f32; 16], ipiv: &[usize; 4], j: usize) -> Pivot
+    requires { ⌜ Placed p × (j < 4) ⌝ }
+    ensures { λ r. ⌜ (r ≡ lookAlong p (now (m .entry)) (now (ipiv .entry)) j) × Placed r ⌝ }
+{
+    let r = 4 * j;
+    let p0 = look(p, ipiv[0], j, 0, m[r]);
+    let p1 = look(p0, ipiv[1], j, 1, m[r + 1]);
+    let p2 = look(p1, ipiv[2], j, 2, m[r + 2]);
+    look(p2, ipiv[3], j, 3, m[r + 3])
+}
+
+fn look_row(p: Pivot, m: &[f32; 16], ipiv: &[usize; 4], j: usize) -> Pivot
+    requires { ⌜ Placed p × (j < 4) ⌝ }
+    ensures { λ r. ⌜ (r ≡ lookRow p (now (m .entry)) (now (ipiv .entry)) j) × Placed r ⌝ }
+{
+    if ipiv[j] == 1 {
+        return p;
+    }
+    look_along(p, m, ipiv, j)
+}
+
+fn find_pivot(m: &[f32; 16], ipiv: &[usize; 4]) -> Pivot
+    ensures { λ r. ⌜ (r ≡ pivotOf (now (m .entry)) (now (ipiv .entry))) × Placed r ⌝ }
+{
+    let p = Pivot {
+        big: 0.0f32,
+        row: 0,
+        col: 0,
+    };
+    let p0 = look_row(p, m, ipiv, 0);
+    let p1 = look_row(p0, m, ipiv, 1);
+    let p2 = look_row(p1, m, ipiv, 2);
+    look_row(p2, m, ipiv, 3)
+}
+
+fn swap_at(m: &mut [f32; 16], i: usize, j: usize)
+    requires { ⌜ (i < 16) × (j < 16) ⌝ }
+    ensures { λ _. ⌜ now (m .exit) ≡ swapAt (now (m .entry)) i j ⌝ }
+{
+    let x = m[i];
+    m[i] = m[j];
+    m[j] = x;
+}
+
+fn exchange_rows(m: &mut [f32; 16], i: usize, j: usize)
+    requires { ⌜ (i < 4) × (j < 4) ⌝ }
+    ensures { λ _. ⌜ now (m .exit) ≡ exchangeRows (now (m .entry)) i j ⌝ }
+{
+    let a = 4 * i;
+    let b = 4 * j;
+    swap_at(m, a, b);
+    swap_at(m, a + 1, b + 1);
+    swap_at(m, a + 2, b + 2);
+    swap_at(m, a + 3, b + 3);
+}
+
+fn swap_rows(m: &mut [f32; 16], i: usize, j: usize)
+    requires { ⌜ (i < 4) × (j < 4) ⌝ }
+    ensures { λ _. ⌜ now (m .exit) ≡ swapRows (now (m .entry)) i j ⌝ }
+{
+    if i == j {
+        return;
+    }
+    exchange_rows(m, i, j);
+}
+
+// x, or in the pivot's column what stands there instead.
+fn but_at(x: f32, k: usize, c: usize, other: f32) -> f32
+    ensures { λ r. ⌜ r ≡ butAt x k c other ⌝ }
+{
+    if k == c { other } else { x }
+}
+
+// The pivot's row, divided by the pivot. The whole row is read before any of it is written: a write of one entry right
+// before the row is read costs more than all the arithmetic.
+fn scale_row(m: &mut [f32; 16], c: usize)
+    requires { ⌜ c < 4 ⌝ }
+    ensures { λ _. ⌜ now (m .exit) ≡ scaleRow (now (m .entry)) c ⌝ }
+{
+    let r = 4 * c;
+    let v = 1.0f32 / m[r + c];
+    let x0 = but_at(m[r], 0, c, 1.0f32);
+    let x1 = but_at(m[r + 1], 1, c, 1.0f32);
+    let x2 = but_at(m[r + 2], 2, c, 1.0f32);
+    let x3 = but_at(m[r + 3], 3, c, 1.0f32);
+    m[r] = x0 * v;
+    m[r + 1] = x1 * v;
+    m[r + 2] = x2 * v;
+    m[r + 3] = x3 * v;
+}
+
+// Row j less the pivot's row times what row j has in the pivot's column. Row j is read before any of it is written,
+// and the pivot's row is another, which no write touches.
+fn clear(m: &mut [f32; 16], c: usize, j: usize)
+    requires { ⌜ (c < 4) × (j < 4) × (j ≢ c) ⌝ }
+    ensures { λ _. ⌜ now (m .exit) ≡ cleared (now (m .entry)) c j ⌝ }
+{
+    let r = 4 * j;
+    let p = 4 * c;
+    let save = m[r + c];
+    let x0 = but_at(m[r], 0, c, 0.0f32);
+    let x1 = but_at(m[r + 1], 1, c, 0.0f32);
+    let x2 = but_at(m[r + 2], 2, c, 0.0f32);
+    let x3 = but_at(m[r + 3], 3, c, 0.0f32);
+    m[r] = x0 - m[p] * save;
+    m[r + 1] = x1 - m[p + 1] * save;
+    m[r + 2] = x2 - m[p + 2] * save;
+    m[r + 3] = x3 - m[p + 3] * save;
+}
+
+fn clear_row(m: &mut [f32; 16], c: usize, j: usize)
+    requires { ⌜ (c < 4) × (j < 4) ⌝ }
+    ensures { λ _. ⌜ now (m .exit) ≡ clearRow (now (m .entry)) c j ⌝ }
+{
+    if j == c {
+        return;
+    }
+    clear(m, c, j);
+}
+
+fn eliminate(m: &mut [f32; 16], c: usize)
+    requires { ⌜ c < 4 ⌝ }
+    ensures { λ _. ⌜ now (m .exit) ≡ eliminated (now (m .entry)) c ⌝ }
+{
+    clear_row(m, c, 0);
+    clear_row(m, c, 1);
+    clear_row(m, c, 2);
+    clear_row(m, c, 3);
+}
+
+// ipiv[c] += 1
+fn mark(ipiv: &mut [usize; 4], c: usize)
+    requires { ⌜ (c < 4) × AtMost 3 (now ipiv) ⌝ }
+    ensures { λ _. ⌜ now (ipiv .exit) ≡ columnTaken (now (ipiv .entry)) c ⌝ }
+{
+    ipiv[c] = ipiv[c] + 1;
+}
+
+// A turn of the outer loop: its indxr and indxc.
+fn turn(m: &mut [f32; 16], ipiv: &mut [usize; 4]) -> Pivot
+    requires { ⌜ AtMost 3 (now ipiv) ⌝ }
+    ensures pivot { λ p. ⌜ (p ≡ pivotOf (now (m .entry)) (now (ipiv .entry))) × Placed p ⌝ }
+    ensures left { λ p. ⌜ (now (m .exit) ≡ turned (now (m .entry)) p) × (now (ipiv .exit) ≡ columnTaken (now (ipiv .entry)) (p .col)) ⌝ }
+{
+    let p = find_pivot(m, ipiv);
+    let row = p.row;
+    let col = p.col;
+    mark(ipiv, col);
+    swap_rows(m, row, col);
+    scale_row(m, col);
+    eliminate(m, col);
+    p
+}
+
+fn exchange_columns(m: &mut [f32; 16], i: usize, j: usize)
+    requires { ⌜ (i < 4) × (j < 4) ⌝ }
+    ensures { λ _. ⌜ now (m .exit) ≡ exchangeColumns (now (m .entry)) i j ⌝ }
+{
+    swap_at(m, i, j);
+    swap_at(m, 4 + i, 4 + j);
+    swap_at(m, 8 + i, 8 + j);
+    swap_at(m, 12 + i, 12 + j);
+}
+
+fn swap_columns(m: &mut [f32; 16], i: usize, j: usize)
+    requires { ⌜ (i < 4) × (j < 4) ⌝ }
+    ensures { λ _. ⌜ now (m .exit) ≡ swapColumns (now (m .entry)) i j ⌝ }
+{
+    if i == j {
+        return;
+    }
+    exchange_columns(m, i, j);
+}
+
+pub fn inverse_flat(m: [f32; 16]) -> [f32; 16]
+    ensures { λ r. ⌜ r ≡ inverseFlat m ⌝ }
+{
+    let mut v = m;
+    let mut ipiv = [0usize; 4];
+    let p0 = turn(&mut v, &mut ipiv);
+    let p1 = turn(&mut v, &mut ipiv);
+    let p2 = turn(&mut v, &mut ipiv);
+    let p3 = turn(&mut v, &mut ipiv);
+    swap_columns(&mut v, p3.row, p3.col);
+    swap_columns(&mut v, p2.row, p2.col);
+    swap_columns(&mut v, p1.row, p1.col);
+    swap_columns(&mut v, p0.row, p0.col);
+    v
+}
