@@ -30,7 +30,8 @@ pub const UMIN: usize = 14;
 
 pub const UMAX: usize = 15;
 
-// A coordinate of the control points: 0 is x, 1 is y, 2 is z.
+// The readers ask that a record is there: they are for slices whose length was tested. This one reads a coordinate of
+// the control points: 0 is x, 1 is y, 2 is z.
 pub fn axis_from(s: &[f32], k: usize) -> Axis
     requires { ⌜ (floats ≤ length (now s)) × (k ≤ 2) ⌝ }
     ensures { λ r. ⌜ r ≡ axisFrom (now (s .entry)) k ⌝ }
