@@ -1,10 +1,10 @@
--- `report::print::print_ray` is safe and ends: every curve is within the list. Assumes nothing.
+-- `printer::print::print_ray` is safe and ends: every curve is within the list. Assumes nothing.
 use mathlib.Core.Path.{_≡_}
 use Prim.Native.Nat.{_-_}
 use borrow.Author.Needs.{needs}
 use lib.ListN.{length}
-use Rattle.report.proofs.print.print_ray.Statement.{statement}
-use Rattle.report.proofs.print.print_ray.Tie as tie
+use Rattle.printer.proofs.print.print_ray.Statement.{statement}
+use Rattle.printer.proofs.print.print_ray.Tie as tie
 
 abbrev Inv-loop : tie.InvT-loop
 Inv-loop out₀ start number ray reverse pieces list identity at₀ i₀ out at i = length out ≡ length out₀

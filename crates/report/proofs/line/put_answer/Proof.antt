@@ -1,10 +1,10 @@
--- `report::print::put_answer` meets its contract: each arm puts its line. Assumes nothing.
+-- `report::line::put_answer` meets its contract: each arm puts its line. Assumes nothing.
 use mathlib.Core.Path.{sym, ap}
 use borrow.Author.Needs.{needs}
 use Rattle.text.proofs.Puts.{renamed}
 use Rattle.report.specs.Printed.{answerText}
-use Rattle.report.proofs.print.put_answer.Statement.{statement}
-use Rattle.report.proofs.print.put_answer.Tie as tie
+use Rattle.report.proofs.line.put_answer.Statement.{statement}
+use Rattle.report.proofs.line.put_answer.Tie as tie
 
 returns : tie.Need-returns
 returns c = let hit = c .before .before in renamed (ap (answerText _ _) (sym (hit .before .before .before .met .given .1))) (hit .put-hit .ensures)

@@ -1,9 +1,9 @@
--- `report::print::print_before` is safe: what is written is within the buffer. Assumes nothing.
+-- `printer::print::print_before` is safe: what is written is within the buffer. Assumes nothing.
 use mathlib.Core.Path.{sym}
 use borrow.Author.Needs.{needs}
 use lib.Seq.{length-take-le}
-use Rattle.report.proofs.print.print_before.Statement.{statement}
-use Rattle.report.proofs.print.print_before.Tie as tie
+use Rattle.printer.proofs.print.print_before.Statement.{statement}
+use Rattle.printer.proofs.print.print_before.Tie as tie
 
 slice-aggregate-write-all : tie.Need-slice-aggregate-write-all
 slice-aggregate-write-all c = sym (length-take-le _ _ (c .before .if1 .taken))

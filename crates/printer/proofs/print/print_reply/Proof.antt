@@ -1,4 +1,4 @@
--- `report::print::print_reply` is safe: the rays and the curves of a reply are within their arrays. Assumes nothing.
+-- `printer::print::print_reply` is safe: the rays and the curves of a reply are within their arrays. Assumes nothing.
 use mathlib.Core.Path.{_≡_, subst}
 use Prim.Native.Nat.{_*_, _≤_}
 use native.Mathlib.Omega.{arith}
@@ -6,8 +6,8 @@ use borrow.Author.Needs.{needs}
 use lib.ListN.{length}
 use Rattle.geometry.specs.Ray.{rayFloats}
 use Rattle.sheet.specs.Sheet.{mostRays, replyWithin}
-use Rattle.report.proofs.print.print_reply.Statement.{statement}
-use Rattle.report.proofs.print.print_reply.Tie as tie
+use Rattle.printer.proofs.print.print_reply.Statement.{statement}
+use Rattle.printer.proofs.print.print_reply.Tie as tie
 
 -- the rays are an array
 long : (c : tie.After-rays2) → length (c .before .before .before .before .before .before .before .args .read .rays) ≡ mostRays * rayFloats

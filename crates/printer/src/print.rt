@@ -3,15 +3,8 @@ ghost use Prim.Native.Nat.{_*_, _≤_};
 ghost use lib.ListN.{length};
 ghost use Rattle.curve.specs.Layout.{floats};
 ghost use Rattle.geometry.specs.Ray.{rayFloats};
-ghost use Rattle.report.specs.Printed.{answerText};
 ghost use Rattle.sheet.specs.Sheet.{mostRays, lastLine, replyWithin};
-ghost use Rattle.text.specs.Put.{Put};
 use crate::explain::explain;
-use crate::line::put_hit;
-use crate::line::put_miss;
-use crate::line::put_pieces;
-use crate::line::put_refused;
-use crate::line::put_refused_sheet;
 use create::MOST_CURVES;
 use curve::FLOATS;
 use geometry::RAY_FLOATS;
@@ -20,6 +13,9 @@ use geometry::ray_from;
 use intersect::Intersection;
 use libc::STDOUT_FILENO;
 use matrix::Matrix4x4;
+use report::put_answer;
+use report::put_pieces;
+use report::put_refused_sheet;
 use sheet::Reply;
 use sheet::Sheet;
 
@@ -27,16 +23,6 @@ use sheet::Sheet;
 fn print_before(out: &[u8], at: usize) {
     if at <= out.len() {
         io::write_all(STDOUT_FILENO, &out[..at]);
-    }
-}
-
-fn put_answer(out: &mut [u8], at: usize, ray: u32, piece: u32, met: Intersection) -> usize
-    ensures { λ r. ⌜ Put (now (out .entry)) at (answerText ray piece met) (now (out .exit)) r ⌝ }
-{
-    match met {
-        Intersection::Hit(h, looked) => { put_hit(out, at, ray, piece, looked, h.t_hit, h.u, h.v) }
-        Intersection::Miss(looked) => put_miss(out, at, ray, piece, looked),
-        Intersection::Refused(number) => put_refused(out, at, ray, piece, number),
     }
 }
 

@@ -1,10 +1,10 @@
--- `report::print::print_rays` is safe and ends: every ray's floats are within the slice. Assumes nothing.
+-- `printer::print::print_rays` is safe and ends: every ray's floats are within the slice. Assumes nothing.
 use mathlib.Core.Path.{_≡_}
 use Prim.Native.Nat.{_-_}
 use borrow.Author.Needs.{needs}
 use lib.ListN.{length}
-use Rattle.report.proofs.print.print_rays.Statement.{statement}
-use Rattle.report.proofs.print.print_rays.Tie as tie
+use Rattle.printer.proofs.print.print_rays.Statement.{statement}
+use Rattle.printer.proofs.print.print_rays.Tie as tie
 
 abbrev Inv-loop : tie.InvT-loop
 Inv-loop out₀ start rays n reverse pieces list at₀ i₀ out at i = length out ≡ length out₀
