@@ -21,5 +21,5 @@ fn main() {
     if n == 65537 {
         drain();
     }
-    report::print_sheet(&bytes[..n]);
+    printer::print_sheet(&bytes[..n]);
 }

@@ -39,8 +39,9 @@ use Rattle.frame.specs.Frame.{framedCurve}
 use Rattle.limits.specs.Within.{rayWithin}
 use Rattle.intersect.specs.Intersect.{repliedAt, intersectWhole, intersectFramed, rayRefusals, intersectRefusals, intersectOf}
 use Rattle.intersect.proofs.ReplySays.{refusal-number}
-use Rattle.sheet.specs.Sheet.{headOf, pointsOf, rayCount, raysOf, isWhole, noRays, refusedWith, paramsIn, withCurves, sheetWithin, sheetOf}
-use Rattle.sheet.specs.declared.head.Head.{Head}
+use Rattle.grammar.specs.Head.{headOf}
+use Rattle.sheet.specs.Sheet.{pointsOf, rayCount, raysOf, isWhole, noRays, refusedWith, paramsIn, withCurves, sheetWithin, sheetOf}
+use Rattle.grammar.specs.declared.head.Head.{Head}
 use Rattle.sheet.specs.declared.Reply.{Reply}
 use Rattle.sheet.specs.declared.Reply.the-variants as reply
 use Rattle.sheet.specs.declared.Sheet.{Sheet}

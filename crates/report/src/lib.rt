@@ -1,7 +1,6 @@
-// What the program `beltbeam` prints of a sheet: where each ray meets each curve, or why the sheet is
-// refused.
-mod explain;
+// The lines that are printed of a sheet: where a ray meets a curve, or why the sheet is refused.
 mod line;
-mod print;
 
-pub use print::print_sheet;
+pub use line::put_answer;
+pub use line::put_pieces;
+pub use line::put_refused_sheet;

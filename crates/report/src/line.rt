@@ -1,7 +1,8 @@
 // The lines of the report, put into a buffer that is lent. Each function answers the place behind what it
 // put.
-ghost use Rattle.report.specs.Printed.{numberText, bitsText, piecesText, placeText, foundText, hitText, missText, refusedText, refusedSheetText};
+ghost use Rattle.report.specs.Printed.{numberText, bitsText, piecesText, placeText, foundText, hitText, missText, refusedText, answerText, refusedSheetText};
 ghost use Rattle.text.specs.Put.{Put};
+use intersect::Intersection;
 use text::put_decimal;
 use text::put_float;
 use text::put_word;
@@ -46,7 +47,7 @@ fn put_found(out: &mut [u8], at: usize, t: f32, u: f32, v: f32) -> usize
     put_bits(out, b, b" v=", v)
 }
 
-pub fn put_hit(
+fn put_hit(
     out: &mut [u8],
     at: usize,
     ray: u32,
@@ -65,7 +66,7 @@ pub fn put_hit(
     put_word(out, d, b"\n")
 }
 
-pub fn put_miss(out: &mut [u8], at: usize, ray: u32, piece: u32, looked: u32) -> usize
+fn put_miss(out: &mut [u8], at: usize, ray: u32, piece: u32, looked: u32) -> usize
     ensures { λ r. ⌜ Put (now (out .entry)) at (missText ray piece looked) (now (out .exit)) r ⌝ }
 {
     let a = put_place(out, at, ray, piece);
@@ -73,12 +74,23 @@ pub fn put_miss(out: &mut [u8], at: usize, ray: u32, piece: u32, looked: u32) ->
     put_word(out, b, b" hit=0\n")
 }
 
-pub fn put_refused(out: &mut [u8], at: usize, ray: u32, piece: u32, number: u8) -> usize
+fn put_refused(out: &mut [u8], at: usize, ray: u32, piece: u32, number: u8) -> usize
     ensures { λ r. ⌜ Put (now (out .entry)) at (refusedText ray piece number) (now (out .exit)) r ⌝ }
 {
     let a = put_place(out, at, ray, piece);
     let b = put_number(out, a, b" refused=", number as u32);
     put_word(out, b, b"\n")
+}
+
+// The line of an answer.
+pub fn put_answer(out: &mut [u8], at: usize, ray: u32, piece: u32, met: Intersection) -> usize
+    ensures { λ r. ⌜ Put (now (out .entry)) at (answerText ray piece met) (now (out .exit)) r ⌝ }
+{
+    match met {
+        Intersection::Hit(h, looked) => { put_hit(out, at, ray, piece, looked, h.t_hit, h.u, h.v) }
+        Intersection::Miss(looked) => put_miss(out, at, ray, piece, looked),
+        Intersection::Refused(number) => put_refused(out, at, ray, piece, number),
+    }
 }
 
 // A refused sheet.

@@ -12,7 +12,7 @@ fn run(path: &[u8]) {
     libc::close(fd);
     io::write_all(STDOUT_FILENO, path);
     io::write_all(STDOUT_FILENO, b":\n");
-    report::print_sheet(&bytes[..n]);
+    printer::print_sheet(&bytes[..n]);
 }
 
 // Belts and their beams.

@@ -14,11 +14,11 @@ use Rattle.text.specs.Digits.{digitChar, decimalIn, decimalText, hexText}
 use Rattle.text.proofs.Decimal.{decimal-one, decimal-more}
 use Rattle.text.proofs.DigitsBack.{digit-no-end, digit-back, digit-here, word-back}
 use Rattle.text.proofs.Places.{Reads, reads-next, byte-at, byte-here, stands, stands-not}
-use Rattle.sheet.specs.Grammar.{decimalAt, decimalLine, wordLineAt, wordLine, eitherLine, typeLine, laterLine, headLine}
-use Rattle.sheet.specs.Sheet.{fieldOf, startOf, headOf}
+use Rattle.grammar.specs.Grammar.{decimalAt, decimalLine, wordLineAt, wordLine, eitherLine, typeLine, laterLine, headLine}
+use Rattle.grammar.specs.Head.{fieldOf, startOf, headOf}
 use Rattle.sheet.specs.Written.{Text, IsText, IsWord, basisOf, typeOf, lineOf, headText, headAt, headWritten}
-use Rattle.sheet.specs.declared.line.Line.{Line}
-use Rattle.sheet.specs.declared.line.Line.the-variants.{Value}
+use Rattle.grammar.specs.declared.line.Line.{Line}
+use Rattle.grammar.specs.declared.line.Line.the-variants.{Value}
 
 -- ---- its lines
 

@@ -14,13 +14,14 @@ use Rattle.geometry.specs.Ray.{rayFloats}
 use Rattle.limits.specs.List.{over, upTo}
 use Rattle.create.specs.declared.create.Created.{Created}
 use Rattle.limits.proofs.Lists.{over-nil, over-length, length-upTo}
-use Rattle.sheet.specs.Grammar.{rowSize, runBelow, rowsFrom, floatsFrom}
+use Rattle.grammar.specs.Grammar.{rowSize, runBelow, rowsFrom, floatsFrom, roomPoints, mostBytes}
 use Rattle.geometry.specs.Point.{pointFloats}
-use Rattle.sheet.specs.Sheet.{pointKey, rayKey, roomPoints, mostRays, mostBytes, raysFrom, raysRead, pointCount, pointsOf, raysAt, rayCount, raysOf, linesRight, isWhole, noRays, refusedWith, paramsIn, withCurves, headOf, sheetWithin, listWithin, sheetOf, listOf}
-use Rattle.sheet.specs.declared.head.Cursor.{Cursor}
-use Rattle.sheet.specs.declared.head.Head.{Head}
+use Rattle.sheet.specs.Sheet.{pointKey, rayKey, mostRays, raysFrom, raysRead, pointCount, pointsOf, raysAt, rayCount, raysOf, linesRight, isWhole, noRays, refusedWith, paramsIn, withCurves, sheetWithin, listWithin, sheetOf, listOf}
+use Rattle.grammar.specs.Head.{headOf}
+use Rattle.grammar.specs.declared.head.Cursor.{Cursor}
+use Rattle.grammar.specs.declared.head.Head.{Head}
 use Rattle.sheet.specs.declared.Sheet.{Sheet}
-use Rattle.sheet.proofs.Floats.{length-floats}
+use Rattle.grammar.proofs.Floats.{length-floats}
 
 -- ---- points and rays
 

@@ -11,10 +11,12 @@ use Rattle.create.specs.Create.{createdOf}
 use Rattle.create.specs.declared.create.Created.{Created}
 use Rattle.create.specs.declared.create.Created.the-variants as created
 use Rattle.limits.specs.List.{over}
-use Rattle.sheet.specs.Sheet.{headOf, mostRays, lastLine, mostBytes, pointCount, raysAt, rayCount, isWhole, pointsOf, raysOf, noRays, refusedWith, linesRight, replyWithin, paramsIn, withCurves, sheetWithin, sheetOf}
-use Rattle.sheet.specs.declared.head.Head.{Head}
+use Rattle.grammar.specs.Head.{headOf}
+use Rattle.sheet.specs.Sheet.{mostRays, lastLine, pointCount, raysAt, rayCount, isWhole, pointsOf, raysOf, noRays, refusedWith, linesRight, replyWithin, paramsIn, withCurves, sheetWithin, sheetOf}
+use Rattle.grammar.specs.Grammar.{mostBytes}
+use Rattle.grammar.specs.declared.head.Head.{Head}
 use Rattle.sheet.specs.declared.Sheet.{Sheet}
-use Rattle.sheet.proofs.Fields.{head-short}
+use Rattle.grammar.proofs.Fields.{head-short}
 use Rattle.sheet.proofs.Replies.{points-most, rays-most}
 
 within-either : (b : Bool) (x y : Sheet) → replyWithin (x .reply) → replyWithin (y .reply) → replyWithin (cond b x y .reply)

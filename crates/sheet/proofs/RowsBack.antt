@@ -16,12 +16,12 @@ use Rattle.text.specs.Digits.{hexText}
 use Rattle.text.proofs.Below.{all-first, all-fails}
 use Rattle.text.proofs.DigitsBack.{word-back}
 use Rattle.text.proofs.Places.{Reads, reads-next, byte-here, stands-not}
-use Rattle.sheet.specs.Grammar.{separator, floatSize, isFloats, isRow, rowSize, floatAt, floatsAt, rowsFrom, floatsFrom}
+use Rattle.grammar.specs.Grammar.{separator, floatSize, isFloats, isRow, rowSize, floatAt, floatsAt, rowsFrom, floatsFrom}
 use Rattle.geometry.specs.Point.{pointFloats}
 use Rattle.sheet.specs.Sheet.{pointKey, rayKey}
 use Rattle.sheet.specs.Written.{AllOf, IsWord, IsRowOf, lineOf, commas, rowsText, rowsFloats}
 use Rattle.sheet.proofs.HeadBack.{line-key}
-use Rattle.sheet.proofs.Runs.{run-is}
+use Rattle.grammar.proofs.Runs.{run-is}
 
 -- a word, what stands behind it, and the other words
 floats-first : (l : List ℕ) (at w n : ℕ) (r : List ℕ) → Reads l at (hexText w ++ separator (suc n) 0 ∷ r) → IsWord w → isFloats l (at + floatSize) n ≡ true → isFloats l at (suc n) ≡ true

@@ -1,6 +1,6 @@
 -- The belt sheet: its head, then one or more points, then up to 64 rays, and its reply. Definitions only.
 use Prim.Native.Nat.{ℕ, _+_, _*_, _≤_}
-use mathlib.Core.Bool.{Bool, true, false, cond, _&&_}
+use mathlib.Core.Bool.{Bool, cond, _&&_}
 use mathlib.Core.List.{List}
 use lib.Dec.{eqb, ltb}
 use lib.Ieee.{Float, binary32, ofBits}
@@ -14,50 +14,13 @@ use Rattle.create.specs.declared.create.Params.{Params}
 use Rattle.create.specs.declared.create.Created.{Created}
 use Rattle.create.specs.declared.create.Created.the-variants as created
 use Rattle.text.specs.Ascii.{ascii}
-use Rattle.sheet.specs.Grammar.{headLine, rowSize, rowsFrom, floatsFrom}
-use Rattle.sheet.specs.declared.line.Line.{Line}
-use Rattle.sheet.specs.declared.line.Line.the-variants.{Value, Wrong}
-use Rattle.sheet.specs.declared.head.Cursor.{Cursor}
-use Rattle.sheet.specs.declared.head.Field.{Field}
-use Rattle.sheet.specs.declared.head.Head.{Head}
+use Rattle.grammar.specs.Grammar.{mostBytes, roomPoints, rowSize, rowsFrom, floatsFrom}
+use Rattle.grammar.specs.Head.{headOf}
+use Rattle.grammar.specs.declared.head.Cursor.{Cursor}
+use Rattle.grammar.specs.declared.head.Head.{Head}
 use Rattle.sheet.specs.declared.Reply.{Reply}
 use Rattle.sheet.specs.declared.Reply.the-variants.{Accepted, Refused}
 use Rattle.sheet.specs.declared.Sheet.{Sheet}
-
--- ---- the head
-
--- The cursor after a line: behind it with its value, or where it was. `lines` is how many lines were right.
-abbrev pub advanced : Cursor → ℕ → Line → Field
-advanced c number (Value v next) = record { cursor = record { at = next; lines = number + 1; ok = true }; value = v }
-advanced c number Wrong = record { cursor = record { at = c .at; lines = number; ok = false }; value = 0 }
-
--- line `number` of the head, unless one before it was wrong
-unfoldable pub fieldOf : List ℕ → ℕ → Cursor → Field
-fieldOf l number c = cond (c .ok) (advanced c number (headLine l number (c .at))) (record { cursor = c; value = 0 })
-
-unfoldable pub startOf : Cursor
-startOf = record { at = 0; lines = 0; ok = true }
-
--- the seven lines in their order
-unfoldable pub headOf : List ℕ → Head
-headOf l =
-    let degree = fieldOf l 0 startOf in
-    let basis = fieldOf l 1 (degree .cursor) in
-    let ty = fieldOf l 2 (basis .cursor) in
-    let width0 = fieldOf l 3 (ty .cursor) in
-    let width1 = fieldOf l 4 (width0 .cursor) in
-    let splitdepth = fieldOf l 5 (width1 .cursor) in
-    let reverse = fieldOf l 6 (splitdepth .cursor) in
-    record {
-      cursor = reverse .cursor;
-      degree = degree .value;
-      basis = basis .value;
-      ty = ty .value;
-      width0 = width0 .value;
-      width1 = width1 .value;
-      splitdepth = splitdepth .value;
-      reverse = reverse .value;
-    }
 
 -- ---- points and rays
 
@@ -68,10 +31,7 @@ pointKey = ascii "point="
 abbrev pub rayKey : List ℕ
 rayKey = ascii "beam="
 
--- more points than 65,536 bytes hold, and as many rays as a sheet may have
-abbrev pub roomPoints : ℕ
-roomPoints = 2048
-
+-- as many rays as a sheet may have
 abbrev pub mostRays : ℕ
 mostRays = 64
 
@@ -138,10 +98,6 @@ listWithin l list =
     let h = headOf l in
     let c = h .cursor in
     cond (isWhole l c) (listAfter (pointsOf l c) (paramsIn h) list) list
-
--- 01: 65,536 bytes
-abbrev pub mostBytes : ℕ
-mostBytes = 65536
 
 -- the whole answer: first 18, for more bytes
 unfoldable pub sheetOf : List ℕ → ℕ → Sheet

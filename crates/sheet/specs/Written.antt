@@ -10,8 +10,9 @@ use Rattle.text.specs.Ascii.{ascii}
 use Rattle.text.specs.Digits.{decimalText, hexText}
 use Rattle.geometry.specs.Ray.{rayFloats}
 use Rattle.geometry.specs.Point.{pointFloats}
-use Rattle.sheet.specs.Sheet.{pointKey, rayKey, roomPoints, mostRays}
-use Rattle.sheet.specs.declared.head.Head.{Head}
+use Rattle.sheet.specs.Sheet.{pointKey, rayKey, mostRays}
+use Rattle.grammar.specs.Grammar.{roomPoints}
+use Rattle.grammar.specs.declared.head.Head.{Head}
 
 -- ---- what is written
 

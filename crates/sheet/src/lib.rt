@@ -7,21 +7,16 @@ ghost use Rattle.geometry.specs.Ray.{rayFloats};
 ghost use Rattle.create.specs.Create.{createdOf, listAfter};
 ghost use Rattle.limits.specs.List.{over};
 ghost use Rattle.geometry.specs.Point.{pointFloats};
-ghost use Rattle.sheet.specs.Sheet.{pointCount, pointsOf, mostBytes, roomPoints, mostRays, raysFrom, raysRead, refusedWith, paramsIn, withCurves, sheetWithin, listWithin, sheetOf, listOf};
-
-mod head;
-mod line;
-mod reader;
-mod rows;
-
+ghost use Rattle.grammar.specs.Grammar.{mostBytes, roomPoints};
+ghost use Rattle.sheet.specs.Sheet.{pointCount, pointsOf, mostRays, raysFrom, raysRead, refusedWith, paramsIn, withCurves, sheetWithin, listWithin, sheetOf, listOf};
 use create::Created;
 use geometry::POINT_FLOATS;
 use geometry::RAY_FLOATS;
-use head::Cursor;
-use head::Head;
-use head::read_head;
-use rows::FLOAT_SIZE;
-use rows::read_rows;
+use grammar::Cursor;
+use grammar::FLOAT_SIZE;
+use grammar::Head;
+use grammar::read_head;
+use grammar::read_rows;
 
 const MOST_BYTES: usize = 65536;
 

@@ -10,10 +10,10 @@ use lib.ListN.{take, length-replicate}
 use lib.Seq.{length-take-le}
 use Rattle.float.specs.Arith.{0f}
 use Rattle.text.specs.Ascii.{ascii}
-use Rattle.sheet.specs.Grammar.{rowSize}
+use Rattle.grammar.specs.Grammar.{rowSize, roomPoints}
 use Rattle.geometry.specs.Point.{pointFloats}
-use Rattle.sheet.specs.Sheet.{roomPoints, mostRays}
-use Rattle.sheet.proofs.Fields.{head-short}
+use Rattle.sheet.specs.Sheet.{mostRays}
+use Rattle.grammar.proofs.Fields.{head-short}
 use Rattle.sheet.proofs.Replies.{points-most, rays-most, points-lent, points-room, within-whole, within-wrong}
 use Rattle.sheet.proofs.read_within.Statement.{statement}
 use Rattle.sheet.proofs.read_within.Tie as tie

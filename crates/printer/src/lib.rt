@@ -1,0 +1,6 @@
+// What the program `beltbeam` prints of a sheet: where each ray meets each curve, or why the sheet is
+// refused.
+mod explain;
+mod print;
+
+pub use print::print_sheet;
