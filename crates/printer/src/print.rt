@@ -13,6 +13,7 @@ use geometry::ray_from;
 use intersect::Intersection;
 use libc::STDOUT_FILENO;
 use matrix::Matrix4x4;
+use report::LONGEST;
 use report::put_answer;
 use report::put_pieces;
 use report::put_refused_sheet;
@@ -26,16 +27,15 @@ fn print_before(out: &[u8], at: usize) {
     }
 }
 
-// A line that ends before the buffer's end is whole. Any other may be cut: what is before it is written, and
-// it is put again.
-fn print_answer(out: &mut [u8], at: usize, ray: u32, piece: u32, met: Intersection) -> usize {
-    let end = put_answer(out, at, ray, piece, met);
-    if end < out.len() {
-        end
-    } else {
-        print_before(out, at);
-        put_answer(out, 0, ray, piece, met)
+// Writes what is before the place where there may be no room for a line behind it, and answers the place.
+fn make_room(out: &[u8], at: usize) -> usize {
+    if at < out.len() {
+        if LONGEST <= out.len() - at {
+            return at;
+        }
     }
+    print_before(out, at);
+    0
 }
 
 // A ray against every curve of the list.
@@ -57,7 +57,8 @@ fn print_ray(
         let from = i as usize * FLOATS;
         let curve = &list[from..from + FLOATS];
         let met = intersect::intersect(curve, identity, identity, reverse, ray);
-        at = print_answer(out, at, number, i, met);
+        let place = make_room(out, at);
+        at = put_answer(out, place, number, i, met);
         i += 1;
     }
     at

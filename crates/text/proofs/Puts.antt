@@ -2,14 +2,15 @@
 use mathlib.Core.Bool.{Bool, true, false}
 use mathlib.Core.Logic.{_⊎_, inl, inr, ⊎-elim}
 use mathlib.Core.Path.{_≡_, refl, sym, ap, _∙_}
-use mathlib.Core.List.{List, [], _∷_, _++_}
+use mathlib.Core.List.{List, [], _∷_, _++_, append-assoc}
 use Prim.Native.Nat.{ℕ, zero, suc, _+_, _-_, _≤_, _<_}
-use native.Mathlib.Nat.{add-assoc, sub-zero, suc-sub-suc, min-le-left}
+use native.Mathlib.Numerals.{add-one}
+use native.Mathlib.Nat.{add-zero, add-assoc, sub-zero, suc-sub-suc, min-le-left}
 use native.Mathlib.Omega.{arith}
 use borrow.Author.Tests.{leb-true, leb-false}
 use lib.Dec.{leb}
-use lib.ListN.{length, take, length-append, length-take}
-use lib.Seq.{take-all}
+use lib.ListN.{length, take, drop, set, length-append, length-take}
+use lib.Seq.{take-all, set-split}
 use Rattle.limits.specs.List.{over}
 use Rattle.limits.proofs.Lists.{over-nil, over-append, length-over}
 use Rattle.text.specs.Put.{fitting, Put}
@@ -57,6 +58,22 @@ then {d} {at} {s} {x} {next} {t} {y} {end} p q =
           ∙ add-assoc at (length f) (length (take (k - length f) t))
           ∙ ap (λ (n : ℕ). at + n) (sym (length-append f (take (k - length f) t)) ∙ ap length (take-two k s t));
     }
+
+-- one byte, where there is room, and where there is none
+pub put-one : (d : List ℕ) (at b : ℕ) → at < length d → Put d at (b ∷ []) (set d at b) (at + 1)
+unfolding fitting over
+put-one d at b h =
+    let all : take (length d - at) (b ∷ []) ≡ b ∷ [] = take-all (length d - at) (b ∷ []) (omega arith) in
+    record {
+      list = rw all (set-split d at b h ∙ ap (λ n. take at d ++ (b ∷ drop n d)) (sym (add-one at)) ∙ sym (append-assoc (take at d) (b ∷ []) (drop (at + 1) d)));
+      place = rw all;
+    }
+
+pub put-none : (d : List ℕ) (at : ℕ) (s : List ℕ) → length d ≤ at → Put d at s d at
+unfolding fitting
+put-none d at s h =
+    let none : length d - at ≡ 0 = omega arith in
+    record { list = rw none (sym (over-nil d at)); place = rw none (sym (add-zero at)) }
 
 -- the same text by another name
 pub renamed : {d : List ℕ} {at : ℕ} {s t x : List ℕ} {next : ℕ} → s ≡ t → Put d at s x next → Put d at t x next

@@ -47,8 +47,12 @@ fn put_digit(out: &mut [u8], at: usize, d: u32) -> usize
     requires { ⌜ d < 16 ⌝ }
     ensures { λ r. ⌜ Put (now (out .entry)) at (digitChar d ∷ []) (now (out .exit)) r ⌝ }
 {
-    let digit = [digit_char(d)];
-    put_word(out, at, &digit)
+    if at < out.len() {
+        out[at] = digit_char(d);
+        at + 1
+    } else {
+        at
+    }
 }
 
 // A number in decimal: what is before its last digit, and that digit.
