@@ -44,7 +44,7 @@ over-settle (Passes at f) before e = refl
 over-settle Fails before e = e
 over-settle (NoFrame k t) before e = refl
 
--- what a leaf decides, with n segments counted
+-- what a leaf decides, with n subcurves counted
 abbrev reachedBy : ℕ → Leaf → Reached
 reachedBy n l = (l, n)
 

@@ -2,7 +2,7 @@
 // create_curve_shape.
 mod list;
 mod out;
-mod text;
+mod words;
 
 pub use list::fill;
 pub use list::hash;
@@ -10,11 +10,11 @@ pub use out::ANSWER_WORDS;
 pub use out::Out;
 pub use out::put_floats;
 pub use out::put_word;
-pub use text::Floats;
-pub use text::LINE_WORDS;
-pub use text::Scan;
-pub use text::Step;
-pub use text::Words;
-pub use text::print_line;
-pub use text::start;
-pub use text::take_byte;
+pub use words::Floats;
+pub use words::LINE_WORDS;
+pub use words::Scan;
+pub use words::Step;
+pub use words::Words;
+pub use words::print_line;
+pub use words::start;
+pub use words::take_byte;

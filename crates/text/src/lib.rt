@@ -2,6 +2,7 @@
 mod read;
 mod write;
 
+pub use read::digit;
 pub use read::digit_at;
 pub use read::is_byte;
 pub use read::is_word;

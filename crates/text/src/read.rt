@@ -28,7 +28,7 @@ pub fn stands_at(s: &[u8], at: usize, word: &[u8]) -> bool
 }
 
 // The value of a hexadecimal digit, and 16 of any other byte.
-fn digit(b: u8) -> u32
+pub fn digit(b: u8) -> u32
     ensures { λ r. ⌜ r ≡ digitOf b ⌝ }
 {
     if b < 48 {

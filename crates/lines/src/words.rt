@@ -1,5 +1,6 @@
 // Lines of words in hexadecimal, a byte at a time. Each word is kept as it stands and as the float that has its bits.
 use libc::STDOUT_FILENO;
+use text::digit;
 
 // Room for the words of any line.
 pub const LINE_WORDS: usize = 4096;
@@ -22,15 +23,6 @@ pub enum Step {
 
 pub fn start() -> Scan {
     Scan { word: 0, count: 0 }
-}
-
-// A digit's value, and 16 for any other byte.
-fn digit(b: u8) -> u32 {
-    match b {
-        b'0'..=b'9' => (b - b'0') as u32,
-        b'a'..=b'f' => (b - b'a' + 10) as u32,
-        _ => 16,
-    }
 }
 
 // A word that has no room is not kept: the count is then that of a line that is too long.

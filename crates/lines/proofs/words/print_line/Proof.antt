@@ -1,8 +1,8 @@
--- `lines::text::print_line` is safe and ends. Assumes nothing.
+-- `lines::words::print_line` is safe and ends. Assumes nothing.
 use borrow.Author.Needs.{needs}
 use Prim.Native.Nat.{_-_}
-use Rattle.lines.proofs.text.print_line.Statement.{statement}
-use Rattle.lines.proofs.text.print_line.Tie as tie
+use Rattle.lines.proofs.words.print_line.Statement.{statement}
+use Rattle.lines.proofs.words.print_line.Tie as tie
 
 abbrev Inv-loop : tie.InvT-loop
 Inv-loop words n i₀ t4 i = Unit {0}
