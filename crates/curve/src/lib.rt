@@ -15,4 +15,3 @@ pub use layout::WIDTH0;
 pub use layout::WIDTH1;
 pub use layout::cubic_from;
 pub use layout::curve_floats;
-pub use layout::curve_from;

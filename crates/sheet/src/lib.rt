@@ -23,7 +23,7 @@ const MOST_BYTES: usize = 65536;
 // More points than so many bytes hold, and as many rays as a sheet may have.
 const ROOM_POINTS: usize = 2048;
 
-pub const MOST_RAYS: usize = 64;
+const MOST_RAYS: usize = 64;
 
 pub const RAYS_FLOATS: usize = MOST_RAYS * RAY_FLOATS;
 
