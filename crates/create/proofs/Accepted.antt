@@ -7,16 +7,18 @@ use native.Mathlib.Nat.{le-trans, mul-comm, mul-left-comm, mul-div-le, mod-eq-of
 use native.Mathlib.Omega.{arith}
 use borrow.Author.Tests.{not-false, ltb-false, leb-false, eqb-true}
 use lib.Dec.{eqb, leb}
+use lib.IntN.{pos, _-ℤ_}
 use lib.Ieee.{Float}
 use lib.ListN.{length}
 use Rattle.create.specs.Basis.{strideOf}
 use Rattle.curve.specs.Layout.{floats}
 use Rattle.limits.specs.Within.{widthWithin}
-use Rattle.create.specs.Create.{countWrong, segmentCount, partCount, curveCount, allWithin, leastWidth, greatestWidth, limitWrong, limitRefusals, createRefusals}
+use Rattle.create.specs.Create.{divisible, countWrong, segmentCount, partCount, curveCount, allWithin, leastWidth, greatestWidth, limitWrong, limitRefusals, createRefusals}
 use Rattle.limits.specs.Refusal.{firstOf}
 use Rattle.limits.proofs.Refusals.{passed}
 use Rattle.create.specs.declared.create.Params.{Params}
 use Rattle.create.proofs.Counts.{segment-count-le}
+use Rattle.create.proofs.Divisible.{unsigned}
 
 neither : (a b : Bool) → a || b ≡ false → (a ≡ false) × (b ≡ false)
 neither true b e = absurd (let z : _≡_ {A = ℕ} 0 1 = cc in omega arith)
@@ -32,7 +34,7 @@ degree-of d false false e g h = absurd (let z : _≡_ {A = ℕ} 0 1 = cc in omeg
 -- for n = (N - 1) / d of a Bezier curve, and n = N - d of a B-spline
 spans : (len d b : ℕ) → 2 ≤ d → d ≤ 3 → countWrong len d b ≡ false → segmentCount (len / 3) d b * strideOf d b + (3 * d + 3) ≤ len + strideOf d b
 unfolding countWrong segmentCount strideOf
-spans len d b l h e = go (eqb b 0) (neither (not (eqb (len % 3) 0)) (cond (eqb b 0) (not (eqb ((len / 3 + d - 1) % d) 0)) (leb (len / 3) d)) e .1)
+spans len d b l h e = go (eqb b 0) (neither (not (eqb (len % 3) 0)) (cond (eqb b 0) (not (divisible (pos (len / 3) -ℤ pos 1 -ℤ pos d) d)) (leb (len / 3) d)) e .1)
   where
     whole : (len : ℕ) → 3 * (len / 3) ≤ len
     whole len = omega arith
@@ -59,8 +61,8 @@ spans len d b l h e = go (eqb b 0) (neither (not (eqb (len % 3) 0)) (cond (eqb b
     spline : (n len d : ℕ) → 3 * n ≤ len → d < n → (n - d) * 3 + (3 * d + 3) ≤ len + 3
     spline n len d w s = omega arith
 
-    go : (t : Bool) → cond t (not (eqb ((len / 3 + d - 1) % d) 0)) (leb (len / 3) d) ≡ false → cond t ((len / 3 - 1) / d) (len / 3 - d) * cond t (3 * d) 3 + (3 * d + 3) ≤ len + cond t (3 * d) 3
-    go true e = bezier (len / 3) len d (whole len) (some (len / 3) d l (eqb-true _ _ (not-false _ e)))
+    go : (t : Bool) → cond t (not (divisible (pos (len / 3) -ℤ pos 1 -ℤ pos d) d)) (leb (len / 3) d) ≡ false → cond t ((len / 3 - 1) / d) (len / 3 - d) * cond t (3 * d) 3 + (3 * d + 3) ≤ len + cond t (3 * d) 3
+    go true e = bezier (len / 3) len d (whole len) (some (len / 3) d l (eqb-true _ _ (sym (unsigned (len / 3) d l) ∙ not-false _ e)))
     go false e = spline (len / 3) len d (whole len) (leb-false (len / 3) d e)
 
 -- ---- the table

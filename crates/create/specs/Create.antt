@@ -3,7 +3,7 @@ use Prim.Native.Nat.{ℕ, _+_, _-_, _*_, _/_, _%_, _^_}
 use mathlib.Core.Bool.{Bool, true, cond, not, _&&_, _||_}
 use mathlib.Core.List.{List, [], _∷_}
 use lib.Dec.{eqb, leb, ltb}
-use lib.IntN.{pos}
+use lib.IntN.{ℤ, pos, natAbs, _-ℤ_}
 use lib.ListN.{length}
 use lib.Ieee.{Float, binary32, ofInt, ofBits}
 use Rattle.float.specs.Arith.{_⊘_}
@@ -25,12 +25,15 @@ paramsOf degree basis ty w0 w1 splitdepth = record { degree = degree; basis = ba
 
 -- ---- how many
 
+-- k divides z: the Rust's z % k == 0
+unfoldable pub divisible : ℤ → ℕ → Bool
+divisible z k = eqb (natAbs z % k) 0
+
 -- Floats not in threes, or: the Bezier basis needs n - 1 - degree divisible by the degree, and the B-spline basis n > degree.
--- n - 1 - degree may be below zero. It is divisible where n + degree - 1 is, 2 * degree more, which is not.
 unfoldable pub countWrong : ℕ → ℕ → ℕ → Bool
 countWrong length degree basis =
     let n = length / 3 in
-    not (eqb (length % 3) 0) || cond (eqb basis 0) (not (eqb ((n + degree - 1) % degree) 0)) (leb n degree)
+    not (eqb (length % 3) 0) || cond (eqb basis 0) (not (divisible (pos n -ℤ pos 1 -ℤ pos degree) degree)) (leb n degree)
 
 -- nsegments
 unfoldable pub segmentCount : ℕ → ℕ → ℕ → ℕ

@@ -19,7 +19,7 @@ use Rattle.create.specs.Create.{curveCount, createRefusals, createdOf}
 use Rattle.curve.specs.declared.curve.Curve.{Curve}
 use Rattle.curve.specs.Curve.{isCurve, curveRefusals}
 use Rattle.curve.specs.Layout.{curveFrom}
-use Rattle.measure.specs.Bound.{boundOf, objectBound, worldBoundRefusals, boundFrom, worldBound}
+use Rattle.measure.specs.Bound.{boundOf, objectBound, boundFrom, worldBoundOf, worldBoundRefusals, worldBound}
 use Rattle.measure.specs.Area.{areaOf, areaIn}
 use Rattle.limits.specs.Within.{matrixWithin}
 use Rattle.limits.specs.List.{over}
@@ -45,7 +45,11 @@ use Rattle.grammar.specs.declared.head.Head.{Head}
 use Rattle.sheet.specs.declared.Reply.{Reply}
 use Rattle.sheet.specs.declared.Reply.the-variants as reply
 use Rattle.sheet.specs.declared.Sheet.{Sheet}
-use Rattle.curve_c.specs.Calls.{createdStatus, boundStatus, areaStatus, metStatus, metBy, replyStatus}
+use Rattle.create.specs.Answer.{createdNumber}
+use Rattle.measure.specs.Answer.{boundNumber, areaNumber}
+use Rattle.intersect.specs.Answer.{metNumber}
+use Rattle.sheet.specs.Answer.{replyNumber}
+use Rattle.curve_c.specs.Calls.{metBy}
 use Rattle.geometry.specs.Ray.{rayFrom}
 
 -- ---- what is told by a table of refusals
@@ -54,25 +58,25 @@ told-answers : {A : Type 0} (status : A → ℕ) (refused : ℕ → A) → ((k :
 told-answers status refused h zero x e = refl
 told-answers status refused h (suc k) x e = absurd (omega (arith, sym (h (suc k)) ∙ e))
 
-pub create-answers : (l : List Float) (p : Params) (room : ℕ) → createdStatus (createdOf l p room) ≡ 0 → createdOf l p room ≡ created.Curves (curveCount (length l / 3) p)
+pub create-answers : (l : List Float) (p : Params) (room : ℕ) → createdNumber (createdOf l p room) ≡ 0 → createdOf l p room ≡ created.Curves (curveCount (length l / 3) p)
 unfolding createdOf
-create-answers l p room = told-answers createdStatus created.Refused (λ k. refl) (firstOf (createRefusals l p room)) (created.Curves (curveCount (length l / 3) p))
+create-answers l p room = told-answers createdNumber created.Refused (λ k. refl) (firstOf (createRefusals l p room)) (created.Curves (curveCount (length l / 3) p))
 
-pub object-bound-answers : (l : List Float) → boundStatus (objectBound l) ≡ 0 → objectBound l ≡ bound.Bounds (boundOf (curveFrom l))
+pub object-bound-answers : (l : List Float) → boundNumber (objectBound l) ≡ 0 → objectBound l ≡ bound.Bounds (boundOf (curveFrom l))
 unfolding objectBound
-object-bound-answers l = told-answers boundStatus bound.Refused (λ k. refl) (firstOf (curveRefusals l)) (bound.Bounds (boundOf (curveFrom l)))
+object-bound-answers l = told-answers boundNumber bound.Refused (λ k. refl) (firstOf (curveRefusals l)) (bound.Bounds (boundOf (curveFrom l)))
 
-pub world-bound-answers : (l : List Float) (m : Matrix4x4) → boundStatus (worldBound l m) ≡ 0 → (b : Bounds3f) × (worldBound l m ≡ bound.Bounds b)
-unfolding worldBound
+pub world-bound-answers : (l : List Float) (m : Matrix4x4) → boundNumber (worldBound l m) ≡ 0 → (b : Bounds3f) × (worldBound l m ≡ bound.Bounds b)
+unfolding worldBound worldBoundOf
 world-bound-answers l m = go (firstOf (worldBoundRefusals l m)) (transformBounds m (boundOf (curveFrom l)))
   where
-    go : (k : ℕ) (t : TransformedBounds) → boundStatus (told bound.Refused k (boundFrom t)) ≡ 0 → (b : Bounds3f) × (told bound.Refused k (boundFrom t) ≡ bound.Bounds b)
-    go k (transformed.Bounds b) e = (b, told-answers boundStatus bound.Refused (λ k. refl) k (bound.Bounds b) e)
-    go k transformed.ZeroWeight e = absurd (omega (arith, e, ap boundStatus (told-answers boundStatus bound.Refused (λ k. refl) k (bound.Refused 12) e)))
+    go : (k : ℕ) (t : TransformedBounds) → boundNumber (told bound.Refused k (boundFrom t)) ≡ 0 → (b : Bounds3f) × (told bound.Refused k (boundFrom t) ≡ bound.Bounds b)
+    go k (transformed.Bounds b) e = (b, told-answers boundNumber bound.Refused (λ k. refl) k (bound.Bounds b) e)
+    go k transformed.ZeroWeight e = absurd (omega (arith, e, ap boundNumber (told-answers boundNumber bound.Refused (λ k. refl) k (bound.Refused 12) e)))
 
-pub area-answers : (l : List Float) → areaStatus (areaIn l) ≡ 0 → areaIn l ≡ measured.Area (areaOf (curveFrom l))
+pub area-answers : (l : List Float) → areaNumber (areaIn l) ≡ 0 → areaIn l ≡ measured.Area (areaOf (curveFrom l))
 unfolding areaIn
-area-answers l = told-answers areaStatus measured.Refused (λ k. refl) (firstOf (curveRefusals l)) (measured.Area (areaOf (curveFrom l)))
+area-answers l = told-answers areaNumber measured.Refused (λ k. refl) (firstOf (curveRefusals l)) (measured.Area (areaOf (curveFrom l)))
 
 -- ---- curve_intersect
 
@@ -106,22 +110,22 @@ met-numbered l o2w w2o reverse r =
     go false false true x n = lit≤ tt
     go false false false x n = n
 
-pub met-hits : (piece o2w w2o : List Float) (reverse : ℕ) (ray : List Float) → metStatus (metBy piece o2w w2o reverse ray) ≡ 0
+pub met-hits : (piece o2w w2o : List Float) (reverse : ℕ) (ray : List Float) → metNumber (metBy piece o2w w2o reverse ray) ≡ 0
     → (h : SurfaceInteraction) × (n : ℕ) × (metBy piece o2w w2o reverse ray ≡ Hit h n)
 unfolding metBy
 met-hits piece o2w w2o reverse ray = go _ (met-numbered piece (matrixFrom o2w 0) (matrixFrom w2o 0) _ (rayFrom ray 0))
   where
-    go : (r : Intersection) → Numbered r → metStatus r ≡ 0 → (h : SurfaceInteraction) × (n : ℕ) × (r ≡ Hit h n)
+    go : (r : Intersection) → Numbered r → metNumber r ≡ 0 → (h : SurfaceInteraction) × (n : ℕ) × (r ≡ Hit h n)
     go (Hit h n) k e = (h, n, refl)
     go (Miss n) k e = absurd (omega (arith, e))
     go (Refused number) k e = absurd (omega (arith, k, e))
 
-pub met-misses : (piece o2w w2o : List Float) (reverse : ℕ) (ray : List Float) → metStatus (metBy piece o2w w2o reverse ray) ≡ 1
+pub met-misses : (piece o2w w2o : List Float) (reverse : ℕ) (ray : List Float) → metNumber (metBy piece o2w w2o reverse ray) ≡ 1
     → (n : ℕ) × (metBy piece o2w w2o reverse ray ≡ Miss n)
 unfolding metBy
 met-misses piece o2w w2o reverse ray = go _ (met-numbered piece (matrixFrom o2w 0) (matrixFrom w2o 0) _ (rayFrom ray 0))
   where
-    go : (r : Intersection) → Numbered r → metStatus r ≡ 1 → (n : ℕ) × (r ≡ Miss n)
+    go : (r : Intersection) → Numbered r → metNumber r ≡ 1 → (n : ℕ) × (r ≡ Miss n)
     go (Hit h n) k e = absurd (omega (arith, e))
     go (Miss n) k e = (n, refl)
     go (Refused number) k e = absurd (omega (arith, k, e))
@@ -151,9 +155,9 @@ refusing l room =
     let made = refusing-made h (rayCount l c) (over noRays 0 (raysOf l c)) (firstOf (createRefusals points (paramsIn h) room)) (curveCount (length points / 3) (paramsIn h)) in
     refusing-either (ltb 65536 (length l)) _ _ (lit≤ tt) (refusing-either (isWhole l c) _ _ made (lit≤ tt))
 
-pub sheet-answers : (l : List ℕ) (room : ℕ) → replyStatus (sheetOf l room .reply) ≡ 0 → (pieces : ℕ) × (reverse : Bool) × (n : ℕ) × (sheetOf l room .reply ≡ reply.Accepted pieces reverse n)
+pub sheet-answers : (l : List ℕ) (room : ℕ) → replyNumber (sheetOf l room .reply) ≡ 0 → (pieces : ℕ) × (reverse : Bool) × (n : ℕ) × (sheetOf l room .reply ≡ reply.Accepted pieces reverse n)
 sheet-answers l room = go (sheetOf l room .reply) (refusing l room)
   where
-    go : (r : Reply) → Refusing r → replyStatus r ≡ 0 → (pieces : ℕ) × (reverse : Bool) × (n : ℕ) × (r ≡ reply.Accepted pieces reverse n)
+    go : (r : Reply) → Refusing r → replyNumber r ≡ 0 → (pieces : ℕ) × (reverse : Bool) × (n : ℕ) × (r ≡ reply.Accepted pieces reverse n)
     go (reply.Accepted pieces reverse n) k e = (pieces, reverse, n, refl)
     go (reply.Refused number line) k e = absurd (omega (arith, k, e))

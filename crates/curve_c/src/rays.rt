@@ -1,6 +1,7 @@
 // Where a ray meets a curve.
 ghost use mathlib.Core.Path.{_≡_};
-ghost use Rattle.curve_c.specs.Calls.{metBy, metStatus, recordAfter, lookedAfter};
+ghost use Rattle.intersect.specs.Answer.{metNumber};
+ghost use Rattle.curve_c.specs.Calls.{metBy, recordAfter, lookedAfter};
 use geometry::RAY_FLOATS;
 use geometry::ray_from;
 use interaction::RECORD_FLOATS;
@@ -11,7 +12,7 @@ use matrix::matrix_from;
 
 // Answers 0 with a hit and 1 with a miss, or its refusal.
 fn put_met(met: Intersection, record: &mut [f32; RECORD_FLOATS], looked: &mut u32) -> u32
-    ensures { λ r. ⌜ r ≡ metStatus met ⌝ }
+    ensures { λ r. ⌜ r ≡ metNumber met ⌝ }
     ensures { λ _. ⌜ now («record» .exit) ≡ recordAfter met (now («record» .entry)) ⌝ }
     ensures { λ _. ⌜ now (looked .exit) ≡ lookedAfter met (now (looked .entry)) ⌝ }
 {
@@ -39,7 +40,7 @@ pub extern "C" fn curve_intersect(
     record: &mut [f32; RECORD_FLOATS],
     looked: &mut u32,
 ) -> u32
-    ensures { λ r. ⌜ r ≡ metStatus (metBy (now (piece .entry)) (now («object_to_world» .entry)) (now («world_to_object» .entry)) reverse (now (ray .entry))) ⌝ }
+    ensures { λ r. ⌜ r ≡ metNumber (metBy (now (piece .entry)) (now («object_to_world» .entry)) (now («world_to_object» .entry)) reverse (now (ray .entry))) ⌝ }
     ensures { λ _. ⌜ now («record» .exit) ≡ recordAfter (metBy (now (piece .entry)) (now («object_to_world» .entry)) (now («world_to_object» .entry)) reverse (now (ray .entry))) (now («record» .entry)) ⌝ }
     ensures { λ _. ⌜ now (looked .exit) ≡ lookedAfter (metBy (now (piece .entry)) (now («object_to_world» .entry)) (now («world_to_object» .entry)) reverse (now (ray .entry))) (now (looked .entry)) ⌝ }
 {

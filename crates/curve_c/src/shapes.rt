@@ -5,7 +5,9 @@ ghost use Rattle.matrix.specs.Matrix.{matrixFrom};
 ghost use Rattle.create.specs.Create.{paramsOf, createdOf, listAfter};
 ghost use Rattle.measure.specs.Bound.{objectBound, worldBound};
 ghost use Rattle.measure.specs.Area.{areaIn};
-ghost use Rattle.curve_c.specs.Calls.{createdStatus, piecesAfter, boundStatus, boundAfter, areaStatus, areaAfter};
+ghost use Rattle.create.specs.Answer.{createdNumber};
+ghost use Rattle.measure.specs.Answer.{boundNumber, areaNumber};
+ghost use Rattle.curve_c.specs.Calls.{piecesAfter, boundAfter, areaAfter};
 use crate::floats::BOUNDS_FLOATS;
 use crate::floats::bounds_floats;
 use create::Created;
@@ -26,7 +28,7 @@ pub extern "C" fn curve_create(
     list: &mut [f32],
     pieces: &mut u32,
 ) -> u32
-    ensures { λ r. ⌜ r ≡ createdStatus (createdOf (now (points .entry)) (paramsOf degree basis ty width0 width1 splitdepth) (length (now (list .entry)))) ⌝ }
+    ensures { λ r. ⌜ r ≡ createdNumber (createdOf (now (points .entry)) (paramsOf degree basis ty width0 width1 splitdepth) (length (now (list .entry)))) ⌝ }
     ensures { λ _. ⌜ now (list .exit) ≡ listAfter (now (points .entry)) (paramsOf degree basis ty width0 width1 splitdepth) (now (list .entry)) ⌝ }
     ensures { λ _. ⌜ now (pieces .exit) ≡ piecesAfter (createdOf (now (points .entry)) (paramsOf degree basis ty width0 width1 splitdepth) (length (now (list .entry)))) (now (pieces .entry)) ⌝ }
 {
@@ -41,7 +43,7 @@ pub extern "C" fn curve_create(
 
 // Answers 0 with a box, or its refusal.
 fn put_bound(b: Bound, out: &mut [f32; BOUNDS_FLOATS]) -> u32
-    ensures { λ r. ⌜ r ≡ boundStatus b ⌝ }
+    ensures { λ r. ⌜ r ≡ boundNumber b ⌝ }
     ensures { λ _. ⌜ now (out .exit) ≡ boundAfter b (now (out .entry)) ⌝ }
 {
     match b {
@@ -55,7 +57,7 @@ fn put_bound(b: Bound, out: &mut [f32; BOUNDS_FLOATS]) -> u32
 
 #[no_mangle]
 pub extern "C" fn curve_object_bound(piece: &[f32], out: &mut [f32; BOUNDS_FLOATS]) -> u32
-    ensures { λ r. ⌜ r ≡ boundStatus (objectBound (now (piece .entry))) ⌝ }
+    ensures { λ r. ⌜ r ≡ boundNumber (objectBound (now (piece .entry))) ⌝ }
     ensures { λ _. ⌜ now (out .exit) ≡ boundAfter (objectBound (now (piece .entry))) (now (out .entry)) ⌝ }
 {
     put_bound(measure::object_bound(piece), out)
@@ -67,7 +69,7 @@ pub extern "C" fn curve_world_bound(
     object_to_world: &[f32; MATRIX_FLOATS],
     out: &mut [f32; BOUNDS_FLOATS],
 ) -> u32
-    ensures { λ r. ⌜ r ≡ boundStatus (worldBound (now (piece .entry)) (matrixFrom (now («object_to_world» .entry)) 0)) ⌝ }
+    ensures { λ r. ⌜ r ≡ boundNumber (worldBound (now (piece .entry)) (matrixFrom (now («object_to_world» .entry)) 0)) ⌝ }
     ensures { λ _. ⌜ now (out .exit) ≡ boundAfter (worldBound (now (piece .entry)) (matrixFrom (now («object_to_world» .entry)) 0)) (now (out .entry)) ⌝ }
 {
     put_bound(
@@ -78,7 +80,7 @@ pub extern "C" fn curve_world_bound(
 
 #[no_mangle]
 pub extern "C" fn curve_area(piece: &[f32], out: &mut f32) -> u32
-    ensures { λ r. ⌜ r ≡ areaStatus (areaIn (now (piece .entry))) ⌝ }
+    ensures { λ r. ⌜ r ≡ areaNumber (areaIn (now (piece .entry))) ⌝ }
     ensures { λ _. ⌜ now (out .exit) ≡ areaAfter (areaIn (now (piece .entry))) (now (out .entry)) ⌝ }
 {
     match measure::area(piece) {

@@ -3,7 +3,8 @@ ghost use mathlib.Core.Path.{_≡_};
 ghost use mathlib.Core.Bool.{cond};
 ghost use lib.ListN.{length};
 ghost use Rattle.sheet.specs.Sheet.{sheetOf, listOf, replyWithin};
-ghost use Rattle.curve_c.specs.Calls.{replyStatus, beamsAfter, countsAfter};
+ghost use Rattle.sheet.specs.Answer.{replyNumber};
+ghost use Rattle.curve_c.specs.Calls.{beamsAfter, countsAfter};
 use sheet::RAYS_FLOATS;
 use sheet::Reply;
 
@@ -21,7 +22,7 @@ fn put_reply(
     out: &mut [u32; 4],
 ) -> u32
     requires { ⌜ replyWithin reply ⌝ }
-    ensures { λ r. ⌜ r ≡ replyStatus reply ⌝ }
+    ensures { λ r. ⌜ r ≡ replyNumber reply ⌝ }
     ensures { λ _. ⌜ now (beams .exit) ≡ beamsAfter reply rays (now (beams .entry)) ⌝ }
     ensures { λ _. ⌜ now (out .exit) ≡ countsAfter reply (now (out .entry)) ⌝ }
 {
@@ -45,7 +46,7 @@ pub extern "C" fn curve_sheet(
     beams: &mut [f32; RAYS_FLOATS],
     out: &mut [u32; 4],
 ) -> u32
-    ensures { λ r. ⌜ r ≡ replyStatus (sheetOf (now (bytes .entry)) (length (now (list .entry))) .reply) ⌝ }
+    ensures { λ r. ⌜ r ≡ replyNumber (sheetOf (now (bytes .entry)) (length (now (list .entry))) .reply) ⌝ }
     ensures { λ _. ⌜ now (list .exit) ≡ listOf (now (bytes .entry)) (now (list .entry)) ⌝ }
     ensures { λ _. ⌜ now (beams .exit) ≡ beamsAfter (sheetOf (now (bytes .entry)) (length (now (list .entry))) .reply) (sheetOf (now (bytes .entry)) (length (now (list .entry))) .rays) (now (beams .entry)) ⌝ }
     ensures { λ _. ⌜ now (out .exit) ≡ countsAfter (sheetOf (now (bytes .entry)) (length (now (list .entry))) .reply) (now (out .entry)) ⌝ }

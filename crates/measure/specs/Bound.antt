@@ -34,22 +34,18 @@ objectBound l = told Refused (firstOf (curveRefusals l)) (Bounds (boundOf (curve
 
 -- ---- the hall box
 
--- 10
-unfoldable pub matrixRefusals : Matrix4x4 → Table
-matrixRefusals m = (not (matrixWithin m), 10) ∷ []
-
 -- a corner's weight of zero is refusal 12
 abbrev pub boundFrom : TransformedBounds → Bound
 boundFrom (transformed.Bounds b) = Bounds b
 boundFrom transformed.ZeroWeight = Refused 12
 
--- of a curve within the limits
+-- world_bound of a curve and a matrix within the limits
 unfoldable pub worldBoundOf : Curve → Matrix4x4 → Bound
-worldBoundOf c m = told Refused (firstOf (matrixRefusals m)) (boundFrom (transformBounds m (boundOf c)))
+worldBoundOf c m = boundFrom (transformBounds m (boundOf c))
 
 -- 9, 10
 unfoldable pub worldBoundRefusals : List Float → Matrix4x4 → Table
-worldBoundRefusals l m = (not (isCurve l), 9) ∷ matrixRefusals m
+worldBoundRefusals l m = (not (isCurve l), 9) ∷ (not (matrixWithin m), 10) ∷ []
 
 unfoldable pub worldBound : List Float → Matrix4x4 → Bound
-worldBound l m = told Refused (firstOf (worldBoundRefusals l m)) (boundFrom (transformBounds m (boundOf (curveFrom l))))
+worldBound l m = told Refused (firstOf (worldBoundRefusals l m)) (worldBoundOf (curveFrom l) m)

@@ -62,26 +62,25 @@ pub fn object_bound(curve: &[f32]) -> Bound
     }
 }
 
-fn world_bound_of(s: &[f32], m: Matrix4x4) -> Bound
+// That box in the world.
+fn curve_world_bound(s: &[f32], m: Matrix4x4) -> Bound
     requires { ⌜ floats ≤ length (now s) ⌝ }
     ensures { λ r. ⌜ r ≡ worldBoundOf (curveFrom (now (s .entry))) m ⌝ }
 {
-    if is_matrix_within(m) {
-        match transform_bounds(m, curve_bound(s)) {
-            TransformedBounds::Bounds(b) => Bound::Bounds(b),
-            TransformedBounds::ZeroWeight => Bound::Refused(12),
-        }
-    } else {
-        Bound::Refused(10)
+    match transform_bounds(m, curve_bound(s)) {
+        TransformedBounds::Bounds(b) => Bound::Bounds(b),
+        TransformedBounds::ZeroWeight => Bound::Refused(12),
     }
 }
 
 pub fn world_bound(curve: &[f32], object_to_world: Matrix4x4) -> Bound
     ensures { λ r. ⌜ r ≡ worldBound (now (curve .entry)) «object_to_world» ⌝ }
 {
-    if is_curve(curve) {
-        world_bound_of(curve, object_to_world)
-    } else {
+    if !is_curve(curve) {
         Bound::Refused(9)
+    } else if !is_matrix_within(object_to_world) {
+        Bound::Refused(10)
+    } else {
+        curve_world_bound(curve, object_to_world)
     }
 }

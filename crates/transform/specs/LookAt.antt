@@ -1,13 +1,13 @@
 -- look_at of src/core/transform.rs. Definitions only.
 use mathlib.Core.Bool.{cond}
 use lib.Ieee.{eq}
-use Rattle.float.specs.Arith.{_⊘_, 0f, 1f}
+use Rattle.float.specs.Arith.{0f, 1f}
 use Rattle.geometry.specs.declared.point.Point3f.{Point3f}
 use Rattle.geometry.specs.declared.vector.Vector3f.{Vector3f}
 use Rattle.geometry.specs.declared.vector.Divided.{Divided}
 use Rattle.geometry.specs.declared.vector.Divided.the-variants.{Vector, ByZero}
 use Rattle.geometry.specs.Point.{difference}
-use Rattle.geometry.specs.Vector.{scaled, lengthOf, normalized, crossOf}
+use Rattle.geometry.specs.Vector.{lengthOf, normalized, crossOf}
 use Rattle.matrix.specs.declared.Matrix4x4.{Matrix4x4}
 use Rattle.matrix.specs.Matrix.{rowOf, identity, inverseOf}
 use Rattle.transform.specs.declared.camera.Transform.{Transform}
@@ -28,15 +28,14 @@ cameraToWorld pos right up dir =
       r3 = rowOf 0f 0f 0f 1f;
     }
 
--- With dir and up of length one: the identity where their cross product has length zero. Else `right` is the cross product over its length,
--- which is not zero there.
+-- with `right`. A division by zero is not met: the length was tested.
+abbrev pub withRight : Point3f → Vector3f → Divided → Transform
+withRight pos dir (Vector right) = let world = cameraToWorld pos right (crossOf dir right) dir in record { m = inverseOf world; «m_inv» = world }
+withRight pos dir ByZero = identityTransform
+
+-- With dir and up of length one: the identity where their cross product has length zero.
 unfoldable pub framed : Point3f → Vector3f → Vector3f → Transform
-framed pos dir up =
-    let across = crossOf up dir in
-    let length = lengthOf across in
-    let right = scaled across (1f ⊘ length) in
-    let world = cameraToWorld pos right (crossOf dir right) dir in
-    cond (eq length 0f) identityTransform (record { m = inverseOf world; «m_inv» = world })
+framed pos dir up = cond (eq (lengthOf (crossOf up dir)) 0f) identityTransform (withRight pos dir (normalized (crossOf up dir)))
 
 abbrev pub withUp : Point3f → Vector3f → Divided → LookAt
 withUp pos dir (Vector up) = looked.Transform (framed pos dir up)

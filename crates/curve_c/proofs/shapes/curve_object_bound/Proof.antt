@@ -3,7 +3,8 @@ use mathlib.Core.Path.{ap, _∙_}
 use borrow.Author.Needs.{needs}
 use denote.Ref.{now}
 use Rattle.measure.specs.declared.bound.Bound.{Bound}
-use Rattle.curve_c.specs.Calls.{boundStatus, boundAfter}
+use Rattle.measure.specs.Answer.{boundNumber}
+use Rattle.curve_c.specs.Calls.{boundAfter}
 use Rattle.curve_c.proofs.shapes.curve_object_bound.Statement.{statement}
 use Rattle.curve_c.proofs.shapes.curve_object_bound.Tie as tie
 
@@ -11,7 +12,7 @@ returns : tie.Need-returns
 returns c =
     let put = c .put-bound .ensures in
     let e = c .before .before .object-bound .ensures in
-    (put .0 ∙ ap boundStatus e, put .1 ∙ ap (λ (x : Bound). boundAfter x (now (c .before .before .before .before .args .out))) e)
+    (put .0 ∙ ap boundNumber e, put .1 ∙ ap (λ (x : Bound). boundAfter x (now (c .before .before .before .before .args .out))) e)
 
 pub curve-object-bound-spec : {M : Type 1} → statement M
 curve-object-bound-spec = tie.close (tie.spec (λ c κs. search needs) (λ c κs. tt) returns)

@@ -6,7 +6,8 @@ use lib.ListN.{length}
 use Rattle.sheet.specs.Sheet.{replyWithin}
 use Rattle.sheet.specs.declared.Sheet.{Sheet}
 use Rattle.sheet.proofs.ReplyWithin.{reply-within}
-use Rattle.curve_c.specs.Calls.{replyStatus, beamsAfter, countsAfter}
+use Rattle.sheet.specs.Answer.{replyNumber}
+use Rattle.curve_c.specs.Calls.{beamsAfter, countsAfter}
 use Rattle.curve_c.proofs.sheets.curve_sheet.Statement.{statement}
 use Rattle.curve_c.proofs.sheets.curve_sheet.Tie as tie
 
@@ -20,7 +21,7 @@ returns c =
     let s = c .before .before .before .before .before .before .before .before .before .before in
     let put = c .put-reply .ensures in
     let read = c .before .before .before .before .before .before .read-sheet .ensures in (
-      put .0 ∙ ap (λ (x : Sheet). replyStatus (x .reply)) (read .0),
+      put .0 ∙ ap (λ (x : Sheet). replyNumber (x .reply)) (read .0),
       (
         read .1,
         (

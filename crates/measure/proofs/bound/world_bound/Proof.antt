@@ -1,20 +1,25 @@
 -- `measure::bound::world_bound` meets its contract: each return rewrites by the facts on its way. Assumes nothing.
-use Rattle.measure.specs.Bound.{worldBound, matrixRefusals, worldBoundOf, worldBoundRefusals}
-use Rattle.limits.specs.Refusal.{firstOf}
+use borrow.Author.Tests.{not-false}
 use Rattle.curve.proofs.Records.{is-long}
+use Rattle.limits.specs.Refusal.{firstOf}
+use Rattle.measure.specs.Bound.{worldBoundRefusals, worldBound}
 use Rattle.measure.proofs.bound.world_bound.Statement.{statement}
 use Rattle.measure.proofs.bound.world_bound.Tie as tie
 
-world-bound-of-requires : tie.Need-world-bound-of-requires
-world-bound-of-requires c κs = is-long _ _ (c .before .is-curve .ensures) (c .if1 .taken)
+curve-world-bound-requires : tie.Need-curve-world-bound-requires
+curve-world-bound-requires c κs = is-long _ _ (c .before .before .before .is-curve .ensures) (not-false _ (c .before .before .if1 .left))
 
 returns : tie.Need-returns
-unfolding worldBound firstOf matrixRefusals worldBoundOf worldBoundRefusals
-returns c = rw (← c .before .before .is-curve .ensures, c .before .if1 .taken, ← c .world-bound-of .ensures)
+unfolding worldBound worldBoundRefusals firstOf
+returns c = rw (← c .before .is-curve .ensures, c .if1 .taken)
 
 returns-2 : tie.Need-returns-2
-unfolding worldBound firstOf matrixRefusals worldBoundOf worldBoundRefusals
-returns-2 c = rw (← c .before .is-curve .ensures, c .if1 .left)
+unfolding worldBound worldBoundRefusals firstOf
+returns-2 c = rw (← c .before .before .before .is-curve .ensures, c .before .before .if1 .left, ← c .before .is-matrix-within .ensures, c .if2 .taken)
+
+returns-3 : tie.Need-returns-3
+unfolding worldBound worldBoundRefusals firstOf
+returns-3 c = rw (← c .before .before .before .before .is-curve .ensures, c .before .before .before .if1 .left, ← c .before .before .is-matrix-within .ensures, c .before .if2 .left, ← c .curve-world-bound .ensures)
 
 pub world-bound-spec : {M : Type 1} → statement M
-world-bound-spec = tie.close (tie.spec (λ c κs. tt) world-bound-of-requires returns returns-2)
+world-bound-spec = tie.close (tie.spec (λ c κs. tt) (λ c κs. tt) curve-world-bound-requires returns returns-2 returns-3)

@@ -1,5 +1,6 @@
 -- `transform::camera::frame` meets its contract: each return rewrites by the facts on its way.
 -- Assumes nothing.
+use Rattle.geometry.specs.Vector.{divided, normalized}
 use Rattle.transform.specs.LookAt.{framed}
 use Rattle.transform.proofs.camera.frame.Statement.{statement}
 use Rattle.transform.proofs.camera.frame.Tie as tie
@@ -9,7 +10,7 @@ unfolding framed
 returns c = rw (← c .before .before .before .cross .ensures, ← c .before .before .length .ensures, c .before .if1 .taken, ← c .default .ensures)
 
 returns-2 : tie.Need-returns-2
-unfolding framed
+unfolding framed normalized divided
 returns-2 c = rw (← c .before .before .before .before .before .before .cross .ensures, ← c .before .before .before .before .before .length .ensures, c .before .before .before .before .if1 .left, ← c .before .before .before .mul .ensures, ← c .before .before .cross2 .ensures, ← c .before .camera-to-world .ensures, ← c .inverse .ensures)
 
 pub frame-spec : {M : Type 1} → statement M
