@@ -3,9 +3,10 @@
  *
  * Link with target/staticlib/libcurve_c.a (x86-64), which `rt staticlib curve_c` proves and writes.
  *
- * Every function ends with an answer or with a refusal's number, for every input; the README has a table of
- * the numbers. A refusal leaves every output as it was. Nothing is allocated, no function keeps a pointer,
- * and calls from several threads at once are safe as long as their outputs differ.
+ * Every function ends, for every input, and returns 0 with its answer, or the number of a refusal; the README has
+ * a table of them. curve_intersect also returns 1, for a miss. A refusal leaves every output as it was, but for
+ * out[CURVE_SHEET_LINE] of curve_sheet, which is written with every reply. Nothing is allocated, no function keeps
+ * a pointer, and calls from several threads at once are safe as long as their outputs differ.
  *
  * What C cannot say and a caller owes: a pointer is not NULL and has room for its length (or for the array
  * that is named), and an output overlaps neither an input nor another output.
@@ -118,8 +119,9 @@ uint32_t curve_intersect(const float *piece, size_t len, const float object_to_w
 
 /*
  * Reads a belt sheet and writes its pieces to `list`.
- * Answers 0, sets out, the line to 0, and writes a ray a beam to `beams`, the rest 0; or 17 or 18, or one of
- * 1 to 8, and then sets out[CURVE_SHEET_LINE] alone: the wrong line, from 1, with 17, else 0.
+ * Answers 0, sets out, and writes a ray a beam to `beams`, the rest 0; or 17 or 18, or one of 1 to 8, and then
+ * leaves the list, the beams and the rest of out. out[CURVE_SHEET_LINE] is set with every reply: the wrong line,
+ * from 1, with 17, else 0.
  */
 uint32_t curve_sheet(const uint8_t *bytes, size_t len, float *list, size_t list_len,
                      float beams[CURVE_BEAMS_FLOATS], uint32_t out[CURVE_SHEET_NUMBERS]);
