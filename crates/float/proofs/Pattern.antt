@@ -5,7 +5,7 @@ use mathlib.Core.Path.{_≡_, refl, sym, ap, _∙_, subst}
 use mathlib.Core.Logic.{_⊎_, inl, inr}
 use mathlib.Core.Bool.{Bool, true, false, not, cond}
 use Prim.Native.Nat.{ℕ, zero, suc, _+_, _-_, _*_, _/_, _^_, _≤_, _<_, min}
-use native.Mathlib.Nat.{le-antisymm, le-refl, le-trans, le-of-eq, le-of-lt, zero-lt-suc, lt-of-lt-of-le, lt-of-le-of-lt, lt-of-not-le, lt-irrefl, eq-or-lt-of-le, zero-add, zero-mul, one-mul, mul-one, mul-assoc, mul-comm, add-assoc, add-mul, suc-mul, mul-le-mul-left, mul-le-mul-right, mul-lt-mul-of-pos-right, div-one, mul-div-cancel, pow-succ', mul-pos, div-div-eq-div-mul, div-lt-iff-lt-mul, le-div-iff-mul-le}
+use native.Mathlib.Nat.{le-antisymm, le-refl, le-trans, le-of-eq, le-of-lt, zero-lt-suc, lt-of-lt-of-le, lt-of-le-of-lt, lt-of-not-le, lt-irrefl, eq-or-lt-of-le, zero-add, zero-mul, one-mul, mul-one, mul-assoc, mul-comm, mul-left-comm, add-assoc, add-mul, suc-mul, mul-le-mul-left, mul-le-mul-right, mul-lt-mul-of-pos-right, div-one, mul-div-cancel, pow-suc, pow-succ', mul-pos, div-div-eq-div-mul, div-lt-iff-lt-mul, le-div-iff-mul-le}
 use native.Mathlib.Decide.{decLe}
 use native.Mathlib.Omega.{arith}
 use lib.Dec.{T, ltb, ltb→lt, nltb→le}
@@ -30,6 +30,13 @@ product-lt i j {a} {b} h l = subst (λ (x : ℕ). a * b < x) (sym (pow-add 2 i j
 pub join : (m i j : ℕ) → m * 2 ^ i * 2 ^ j ≡ m * 2 ^ (i + j)
 join m i j = mul-assoc m (2 ^ i) (2 ^ j) ∙ ap (λ (x : ℕ). m * x) (sym (pow-add 2 i j))
 
+pub four-pow : (k : ℕ) → 4 ^ k ≡ 2 ^ k * 2 ^ k
+four-pow zero = refl
+four-pow (suc k) = pow-suc 4 k ∙ ap (λ (x : ℕ). x * 4) (four-pow k) ∙ sym (ap (λ (x : ℕ). x * x) (pow-suc 2 k) ∙ four (2 ^ k))
+  where
+    four : (x : ℕ) → x * 2 * (x * 2) ≡ x * x * 4
+    four x = simp (mul-assoc, mul-comm, mul-left-comm) (omega arith)
+
 size-exact : (n j : ℕ) → 2 ^ j ≤ n → n < 2 ^ suc j → size n ≡ suc j
 size-exact n j lo hi = le-antisymm (size-le n (suc j) hi) (pow-lt-back j (size n) (lt-of-le-of-lt lo (size-lt n)))
 
@@ -39,6 +46,9 @@ twice p h = ap (λ (x : ℕ). 2 ^ x) (go p h) ∙ pow-succ' 2 (p - 1)
   where
     go : (p : ℕ) → 0 < p → p ≡ suc (p - 1)
     go p h = omega arith
+
+pub twice-hid : (f : Format) → 2 ^ prec f ≡ 2 * hid f
+twice-hid f = twice (prec f) (two-le-pos (prec f) (two f))
 
 -- ---- a units are written as the pattern w, in a format of p digits
 
@@ -134,7 +144,7 @@ module _ (f : Format) (a w : ℕ) where
   under-last l (inr (k, q, g, t, e, e′)) =
       let b : prec f - 1 + k < low f + suc (emax f) = pow-lt-back (prec f - 1 + k) (low f + suc (emax f)) (lt-of-le-of-lt (at-least (prec f) q k g) (subst (λ (x : ℕ). x < 2 ^ (low f + suc (emax f))) e l)) in
       le-trans (le-of-eq e′)
-      (le-trans (step (k * h) q h (2 ^ prec f) (twice (prec f) (two-le-pos (prec f) (two f))) t)
+      (le-trans (step (k * h) q h (2 ^ prec f) (twice-hid f) t)
       (le-trans (le-of-eq (sym (add-mul k 2 h))) (mul-le-mul-right h (room (prec f) (emax f) k (two f) b))))
     where
       step : (x q h z : ℕ) → z ≡ 2 * h → q < z → x + q ≤ x + 2 * h

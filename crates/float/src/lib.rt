@@ -1,12 +1,12 @@
 // Float tools: what the operators of `f32` and `f64` lack. Each contract is one equation with a
 // definition of `specs/`, and no public function asks anything of its caller.
 ghost use mathlib.Core.Path.{_≡_};
-ghost use Prim.Native.Nat.{_+_, _*_, _/_, _%_, _^_, _≤_, _<_};
-ghost use lib.Ieee.{binary32, ofBits, toBits};
+ghost use Prim.Native.Nat.{suc, _+_, _*_, _/_, _%_, _^_, _≤_, _<_};
+ghost use lib.Ieee.{binary32, prec, hid, ones, ofBits, toBits};
 ghost use lib.Ieee.Nearest.{closest};
 ghost use Rattle.float.specs.Basic.{absOf, maxOf, minOf};
 ghost use Rattle.float.specs.Narrow.{narrowOf};
-ghost use Rattle.float.specs.Root.{isqrt, rootOf, sqrtOf};
+ghost use Rattle.float.specs.Root.{isqrt, rootOfRaised, sqrtOf};
 
 // The value with the bits b. Every pattern of a NaN gives a NaN.
 pub fn of_bits(b: u32) -> f32
@@ -147,8 +147,8 @@ pub fn sqrt(x: f32) -> f32
 // a subnormal value has a leading digit too. The digits are shifted by 24 places, or by 23 where the
 // exponent is odd: that leaves an even exponent, and their root has 24 digits again.
 fn root(pattern: u32) -> f32
-    requires { ⌜ pattern < 279 * 2 ^ 23 ⌝ }
-    ensures { λ r. ⌜ r ≡ rootOf ((pattern % 2 ^ 23 + 2 ^ 23) * 2 ^ (pattern / 2 ^ 23 + 124)) ⌝ }
+    requires { ⌜ pattern < (ones binary32 + prec binary32) * hid binary32 ⌝ }
+    ensures { λ r. ⌜ r ≡ rootOfRaised binary32 pattern ⌝ }
 {
     let exponent = pattern >> 23;
     let digits = (pattern % 0x80_0000 + 0x80_0000) as u64;
@@ -161,8 +161,8 @@ fn root(pattern: u32) -> f32
 // guess, whatever it is, so only its speed depends on the guess.
 fn nearest_root(n: u64, guess: u64) -> u64
     requires { ⌜ 1 ≤ n ⌝ }
-    requires { ⌜ n < 2 ^ 48 ⌝ }
-    requires { ⌜ guess < 2 ^ 25 ⌝ }
+    requires { ⌜ n < 2 ^ (2 * prec binary32) ⌝ }
+    requires { ⌜ guess < 2 ^ suc (prec binary32) ⌝ }
     ensures { λ r. ⌜ r ≡ (isqrt (4 * n) + 1) / 2 ⌝ }
 {
     let mut d = guess;
@@ -182,7 +182,7 @@ fn nearest_root(n: u64, guess: u64) -> u64
 // exponent, are the last 24 bits of the pattern. One guess in a hundred is off, by one, and no
 // proof rests on that.
 fn estimate(pattern: u32) -> u64
-    ensures { λ r. ⌜ r < 2 ^ 25 ⌝ }
+    ensures { λ r. ⌜ r < 2 ^ suc (prec binary32) ⌝ }
 {
     let part = (pattern >> 19) % 32;
     // how far the number is past the part's start, and what is left to its end
