@@ -107,7 +107,7 @@ module _ (f : Format) (m t : ℕ) (lo : hid f ≤ m) (hi : m < 2 ^ prec f) (L : 
         quarter a b h = omega arith
 
         doubled : (h z u g : ℕ) → z ≡ 2 * h → 4 * (h * h * u * g) ≡ z * z * u * g
-        doubled h z u g e = rw e (simp (mul-assoc, mul-comm, mul-left-comm) (omega arith))
+        doubled h z u g e = rw e (simp (mul-assoc, mul-left-comm) (omega arith))
 
 -- ---- every value that is finite and above zero has one of the two shapes
 

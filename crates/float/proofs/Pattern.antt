@@ -132,6 +132,10 @@ same-value f v w s a p q h k = sym (ofBits-toBits f v p) ∙ ap (ofBits f) (toBi
 
 -- ---- the infinity's pattern is where the values end
 
+-- without its sign
+abbrev pub last : Format → ℕ
+last f = ones f * hid f
+
 module _ (f : Format) (a w : ℕ) where
   abbrev h : ℕ
   h = hid f
@@ -168,9 +172,16 @@ module _ (f : Format) (a w : ℕ) where
       room : (p m k : ℕ) → 2 ≤ p → m + p - 2 + suc m < p + k → 2 * m + 1 ≤ suc k
       room p m k u l = omega arith
 
+-- a field i and the digits q, which may have been rounded up to 2 ^ prec, are no more than the infinity's pattern
+pub in-reach : (f : Format) (i q : ℕ) → i + 2 ≤ ones f → q ≤ 2 ^ prec f → i * hid f + q ≤ last f
+in-reach f i q l h = le-trans (step (i * hid f) (hid f) (2 ^ prec f) (twice-hid f) h) (le-trans (le-of-eq (sym (add-mul i 2 (hid f)))) (mul-le-mul-right (hid f) l))
+  where
+    step : (x h z : ℕ) → z ≡ 2 * h → q ≤ z → x + q ≤ x + 2 * h
+    step x h z e l = omega arith
+
 -- the pattern w with the sign s, and the infinity's where w is past it
 abbrev pub pattern : Format → Bool → ℕ → ℕ
-pattern f s w = cond s (top f) 0 + min w (ones f * hid f)
+pattern f s w = cond s (top f) 0 + min w (last f)
 
 toBits-units : (f : Format) (s : Bool) (q k w : ℕ) → Written (prec f) (q * 2 ^ k) w → toBits f (units f s q k) ≡ pattern f s w
 unfolding units
@@ -188,8 +199,8 @@ toBits-units f s q k w g = go (ltb (q * 2 ^ k) (2 ^ (low f + suc (emax f)))) (lt
         let a = q * 2 ^ k in
         toBits-of f (odd (suc (prec f)) s q k (low f)) s a (odd-sign (suc (prec f)) s q k (low f))
         ∙ add-assoc (cond s (top f) 0) ((size a - prec f) * hid f) (a / 2 ^ (size a - prec f))
-        ∙ ap (λ (x : ℕ). cond s (top f) 0 + x) (field-digits (prec f) a w (two-le-pos (prec f) (two f)) g ∙ left w (ones f * hid f) (under-last f a w (l tt) g))
-    go false l n = unfold toBits in ap (λ (x : ℕ). cond s (top f) 0 + x) (right w (ones f * hid f) (over-last f (q * 2 ^ k) w (n tt) g))
+        ∙ ap (λ (x : ℕ). cond s (top f) 0 + x) (field-digits (prec f) a w (two-le-pos (prec f) (two f)) g ∙ left w (last f) (under-last f a w (l tt) g))
+    go false l n = unfold toBits in ap (λ (x : ℕ). cond s (top f) 0 + x) (right w (last f) (over-last f (q * 2 ^ k) w (n tt) g))
 
 -- ---- a fraction's rounding, by any fraction a / b that it equals in units of 2 ^ k least values, if its whole part has the format's digits
 

@@ -3,18 +3,18 @@
 use mathlib.Core.Path.{_≡_, sym, ap, subst, _∙_}
 use mathlib.Core.Bool.{false, not}
 use Prim.Native.Nat.{ℕ, zero, suc, _+_, _-_, _*_, _/_, _%_, _^_, _≤_, _<_, min}
-use native.Mathlib.Nat.{le-trans, le-of-eq, lt-irrefl, lt-of-lt-of-le, lt-of-le-of-lt, mul-assoc, mul-comm, mul-left-comm, mul-add, add-mul, mul-suc, mul-one, one-mul, mul-le-mul, mul-le-mul-right, mul-lt-mul-of-pos-right, pow-succ', div-add-mod'}
+use native.Mathlib.Nat.{le-trans, le-of-eq, le-of-lt, lt-irrefl, lt-of-lt-of-le, lt-of-le-of-lt, mul-assoc, mul-comm, mul-left-comm, mul-add, add-mul, mul-suc, mul-one, one-mul, mul-le-mul, mul-le-mul-right, mul-lt-mul-of-pos-right, pow-succ', div-add-mod'}
 use native.Mathlib.Omega.{arith}
 use lib.Dec.{T, lit≤}
 use lib.Pow.{pow-add, pow-pos, pow-mono}
-use lib.Ieee.{Format, binary32, binary64, prec, emax, low, hid, ones, isNan, units, ofBits}
+use lib.Ieee.{Format, binary32, binary64, prec, emax, low, hid, isNan, units, ofBits}
 use lib.Ieee.Fits.{two}
 use lib.Bits.{shifted-even}
 use lib.Ieee.Nearest.{closest}
 use Rattle.float.specs.Root.{isqrt, raised, rootAt}
 use Rattle.float.proofs.Closest.{closest-cut}
 use Rattle.float.proofs.Isqrt.{isqrt-is, isqrt-ge, isqrt-lt, double, square-suc}
-use Rattle.float.proofs.Pattern.{join, twice-hid, pattern, round-by, built, round-no-nan}
+use Rattle.float.proofs.Pattern.{join, twice-hid, last, in-reach, pattern, round-by, built, round-no-nan}
 
 -- ---- squares
 
@@ -186,16 +186,13 @@ module _ (f : Format) (m t : ℕ) (lo : hid f ≤ m) (hi : m < 2 ^ prec f) (L : 
   pub built-at : ofBits f (dropped f t * hid f + rootDigits f m t) ≡ rootAt f (m * 2 ^ t)
   built-at =
       let w = dropped f t * hid f + rootDigits f m t in
-      ap (ofBits f) (small w (ones f * hid f) (le-trans (step (dropped f t * hid f) (rootDigits f m t) (hid f) (2 ^ prec f) (twice-hid f) digits-lt) (le-trans (le-of-eq (sym (add-mul (dropped f t) 2 (hid f)))) (mul-le-mul-right (hid f) (omega (arith, deep f))))))
+      ap (ofBits f) (small w (last f) (in-reach f (dropped f t) (rootDigits f m t) (omega (arith, deep f)) (le-of-lt digits-lt)))
       ∙ ap (λ (x : ℕ). ofBits f (pattern f false (x * hid f + rootDigits f m t))) (sym one-more)
       ∙ root-built f c half radicand-even radicand-ge radicand-lt room
       ∙ ap (rootAt f) parts
     where
       small : (w y : ℕ) → w ≤ y → w ≡ 0 + min w y
       small w y l = omega arith
-
-      step : (x d h z : ℕ) → z ≡ 2 * h → d < z → x + d ≤ x + 2 * h
-      step x d h z e l = omega arith
 
 pub root-no-nan : (f : Format) (n : ℕ) → T (not (isNan (rootAt f n)))
 unfolding rootAt

@@ -5,7 +5,7 @@ ghost use Prim.Native.Nat.{suc, _+_, _*_, _/_, _%_, _^_, _≤_, _<_};
 ghost use lib.Ieee.{binary32, prec, hid, ones, ofBits, toBits};
 ghost use lib.Ieee.Nearest.{closest};
 ghost use Rattle.float.specs.Basic.{absOf, maxOf, minOf};
-ghost use Rattle.float.specs.Narrow.{narrowOf};
+ghost use Rattle.float.specs.Narrow.{narrowOf, spare};
 ghost use Rattle.float.specs.Root.{isqrt, rootOfRaised, sqrtOf};
 
 // The value with the bits b. Every pattern of a NaN gives a NaN.
@@ -84,6 +84,7 @@ pub fn narrow(x: f64) -> f32
     let sign = (bits >> 63) << 31;
     let magnitude = bits % 0x8000_0000_0000_0000;
     let exponent = magnitude >> 52;
+    // the same exponent has a field that is 896 more in f64, and f64 has 29 digits more
     let rounded = match exponent {
         // below half of the least subnormal
         0..=872 => 0,
@@ -104,9 +105,9 @@ pub fn narrow(x: f64) -> f32
 // m / 2^s to the nearest whole number, and at a tie to the even one. Half of 2^s is added before
 // the shift, less one unless the quotient is odd, so that a tie carries into an odd quotient only.
 fn shift_nearest(m: u64, s: u64) -> u64
-    requires { ⌜ m < 2 ^ 62 ⌝ }
+    requires { ⌜ m < 2 ^ spare ⌝ }
     requires { ⌜ 1 ≤ s ⌝ }
-    requires { ⌜ s < 62 ⌝ }
+    requires { ⌜ s < spare ⌝ }
     ensures { λ r. ⌜ r ≡ closest m (2 ^ s) ⌝ }
 {
     let half = 1u64 << (s - 1);
@@ -154,6 +155,7 @@ fn root(pattern: u32) -> f32
     let digits = (pattern % 0x80_0000 + 0x80_0000) as u64;
     let guess = estimate(pattern);
     let d = nearest_root(digits << (24 - exponent % 2), guess);
+    // d counts 2^((exponent + 101) / 2) least values, and its leading digit adds one to the field
     f32::from_bits((((exponent + 101) / 2) << 23) + d as u32)
 }
 

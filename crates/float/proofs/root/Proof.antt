@@ -77,7 +77,7 @@ returns c =
     ∙ ap (λ (x : ℕ). ofBits binary32 (dropped binary32 (t (p c)) * hid binary32 + x)) (d-is c)
     ∙ put (p c) (c .before .before .pre)
   where
-    field : (p : ℕ) → p < (ones binary32 + prec binary32) * hid binary32 → (p / hid binary32 + 101) / 2 * hid binary32 % 2 ^ 32 ≡ dropped binary32 (t p) * hid binary32
+    field : (p : ℕ) → p < (ones binary32 + prec binary32) * hid binary32 → (p / hid binary32 + (raised binary32 + 1 - prec binary32)) / 2 * hid binary32 % 2 ^ 32 ≡ dropped binary32 (t p) * hid binary32
     field p l = omega arith
 
 float-from-bits-result : tie.Need-float-from-bits-result
