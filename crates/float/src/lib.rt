@@ -126,7 +126,7 @@ pub fn sqrt(x: f32) -> f32
     let bits: u32 = f32::to_bits(x);
     if 0x8000_0000 <= bits {
         if bits == 0x8000_0000 {
-            return x;
+            return x; // -0.0
         }
         return 0.0 / 0.0;
     }
