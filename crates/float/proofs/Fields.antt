@@ -8,10 +8,9 @@ use borrow.Author.Tests.{eq-eqb, ne-eqb}
 use lib.Dec.{T, leb, eqb, leb→le, nleb→lt}
 use lib.Pow.{pow-pos}
 use lib.Ieee.{Float, nan, inf, Format, prec, emax, low, odd, fits, isNan, hid, ones, top, ofFields, ofBits, toBits}
-use lib.Ieee.Fits.{two, two-le-pos}
 use lib.Ieee.Bits.{ofBits-toBits}
 use lib.Ieee.Exact.{HasValue, odd-sign}
-use Rattle.float.proofs.Pattern.{twice}
+use Rattle.float.proofs.Pattern.{twice-hid}
 
 -- the pattern b as a value, by its three fields
 abbrev pub at : Format → ℕ → Float
@@ -30,11 +29,11 @@ significand f zero t = t
 significand f (suc x) t = hid f + t
 
 pub significand-lt : (f : Format) (x t : ℕ) → t < hid f → significand f x t < 2 ^ prec f
-significand-lt f zero t h = go (hid f) (2 ^ prec f) (twice (prec f) (two-le-pos (prec f) (two f))) h
+significand-lt f zero t h = go (hid f) (2 ^ prec f) (twice-hid f) h
   where
     go : (a z : ℕ) → z ≡ 2 * a → t < a → t < z
     go a z e l = omega arith
-significand-lt f (suc x) t h = go (hid f) (2 ^ prec f) (twice (prec f) (two-le-pos (prec f) (two f))) h
+significand-lt f (suc x) t h = go (hid f) (2 ^ prec f) (twice-hid f) h
   where
     go : (a z : ℕ) → z ≡ 2 * a → t < a → a + t < z
     go a z e l = omega arith

@@ -25,7 +25,7 @@ root-only n a b p q = le-antisymm (at-most a b p q) (at-most b a q p)
 
 -- ---- `isqrt`, a digit at a time in base 4
 
-double : (x : ℕ) → 2 * x * (2 * x) ≡ x * x * 4
+pub double : (x : ℕ) → 2 * x * (2 * x) ≡ x * x * 4
 double x = simp (mul-assoc, mul-comm, mul-left-comm) (omega arith)
 
 step : (n r : ℕ) → Root (n / 4) r → Root n (cond (leb ((2 * r + 1) * (2 * r + 1)) n) (2 * r + 1) (2 * r))

@@ -1,174 +1,206 @@
--- `narrow`'s arms. Of an f64 with the sign s, the field E and the digits t, `Sized s E t n` says that n is the pattern, without its sign, of what `narrowOf` gives. Assumes nothing.
+-- `narrow`'s arms, from a format g to one with fewer digits and exponents, f. Of a value of g with the sign s, the field E and the digits t, `Sized f g s E t n` says that n is the pattern, without its sign, of what `narrowAt f` gives.
+-- At the end they stand for f64 and f32. Assumes nothing.
 use mathlib.Core.Path.{_≡_, refl, sym, ap, _∙_, subst}
 use mathlib.Core.Logic.{inl, inr}
-use mathlib.Core.Bool.{Bool, true, false, not, cond}
-use Prim.Native.Nat.{ℕ, zero, suc, _+_, _-_, _*_, _/_, _%_, _^_, _≤_, _<_, min}
-use native.Mathlib.Nat.{lt-irrefl, lt-of-lt-of-le, add-comm, le-refl, le-add-left, eq-or-lt-of-le}
+use mathlib.Core.Bool.{Bool, not, cond}
+use Prim.Native.Nat.{ℕ, zero, suc, _+_, _-_, _*_, _/_, _%_, _^_, _≤_, _<_, min, zero-le}
+use native.Mathlib.Nat.{lt-irrefl, lt-of-lt-of-le, add-comm, mul-one, mul-assoc, mul-left-comm, mul-le-mul-right, suc-mul, le-refl, le-trans, le-of-eq, le-add-left, eq-or-lt-of-le}
 use native.Mathlib.Omega.{arith}
-use lib.Dec.{T, leb}
+use lib.Dec.{T, leb, lit≤}
 use lib.Pow.{pow-add, pow-pos, pow-mono, shl-lt}
-use lib.Ieee.{Float, nan, inf, fin, binary32, binary64, up, down, round, fits, isNan, ofBits, toBits, ofFields}
-use lib.Ieee.Fits.{down-pos, round-fits}
+use lib.Ieee.{Float, nan, inf, fin, Format, binary32, binary64, prec, emax, low, hid, ones, top, up, down, round, fits, isNan, ofBits, toBits, ofFields}
+use lib.Ieee.Fits.{two, reach, down-pos, round-fits}
+use lib.Ieee.Bits.{ofBits-toBits}
 use lib.Ieee.Exact.{HasValue, round-exact}
 use lib.Ieee.Nearest.{closest}
 use lib.Ieee.Scale.{round-same}
-use Rattle.float.specs.Narrow.{narrowOf}
+use Rattle.float.specs.Narrow.{narrowAt}
 use Rattle.float.proofs.Closest.{closest-zero, closest-plus, closest-le, closest-ge}
-use Rattle.float.proofs.Pattern.{join, pattern, built, same-value, round-no-nan}
+use Rattle.float.proofs.Pattern.{join, twice, last, in-reach, pattern, built, same-value, round-no-nan}
 use Rattle.float.proofs.Fields.{read, significand, significand-lt, digits-in, field-in, finite-at, infinite-at}
 
 -- by any fraction that the value equals
-pub narrow-value : (v : Float) (s : Bool) (a c : ℕ) → 0 < c → HasValue v s a c → narrowOf v ≡ round binary32 s a c
-unfolding narrowOf
-narrow-value nan s a c C h = absurd h
-narrow-value (inf t) s a c C h = absurd h
-narrow-value (fin t m e) s a c C (p, q) = round-same binary32 t (m * up e) (down e) a c (down-pos e) C q ∙ ap (λ (z : Bool). round binary32 z a c) p
+pub narrow-value : (f : Format) (v : Float) (s : Bool) (a c : ℕ) → 0 < c → HasValue v s a c → narrowAt f v ≡ round f s a c
+unfolding narrowAt
+narrow-value f nan s a c C h = absurd h
+narrow-value f (inf t) s a c C h = absurd h
+narrow-value f (fin t m e) s a c C (p, q) = round-same f t (m * up e) (down e) a c (down-pos e) C q ∙ ap (λ (z : Bool). round f z a c) p
 
-pub narrow-no-nan : (v : Float) → T (not (isNan v)) → T (not (isNan (narrowOf v)))
-unfolding narrowOf isNan
-narrow-no-nan nan h = h
-narrow-no-nan (inf s) h = tt
-narrow-no-nan (fin s m e) h = round-no-nan binary32 s (m * up e) (down e)
+pub narrow-no-nan : (f : Format) (v : Float) → T (not (isNan v)) → T (not (isNan (narrowAt f v)))
+unfolding narrowAt isNan
+narrow-no-nan f nan h = h
+narrow-no-nan f (inf s) h = tt
+narrow-no-nan f (fin s m e) h = round-no-nan f s (m * up e) (down e)
 
-abbrev pub Sized : Bool → ℕ → ℕ → ℕ → Type 0
-Sized s E t n = (n ≤ 0x7f80_0000) × (ofBits binary32 (cond s 0x8000_0000 0 + n) ≡ narrowOf (ofFields binary64 s E t))
+abbrev pub Sized : Format → Format → Bool → ℕ → ℕ → ℕ → Type 0
+Sized f g s E t n = (n ≤ last f) × (ofBits f (cond s (top f) 0 + n) ≡ narrowAt f (ofFields g s E t))
 
-normal : (E t : ℕ) → 1 ≤ E → significand binary64 E t ≡ t + 2 ^ 52
-normal zero t h = absurd (lt-irrefl 0 h)
-normal (suc E) t h = add-comm (2 ^ 52) t
+normal : (g : Format) (E t : ℕ) → 1 ≤ E → significand g E t ≡ t + hid g
+normal g zero t h = absurd (lt-irrefl 0 h)
+normal g (suc E) t h = add-comm (hid g) t
 
-module _ (s : Bool) (E t : ℕ) (T52 : t < 2 ^ 52) where
+-- g has k digits more than f, and its exponents reach d further: so the same exponent has a field that is d more
+module _ (f g : Format) (k d : ℕ) (P : prec g ≡ prec f + k) (B : emax g ≡ emax f + d) (D : prec f < d) (s : Bool) (E t : ℕ) (H : t < hid g) where
   abbrev m : ℕ
-  m = significand binary64 E t
+  m = significand g E t
 
-  m-lt : m < 2 ^ 53
-  m-lt = significand-lt binary64 E t T52
+  -- how many digits are cut below f's least normal value
+  abbrev cut : ℕ
+  cut = d + k - (E - 1)
 
-  is-round : E < 2047 → round binary32 s (m * 2 ^ (E - 1)) (2 ^ 1074) ≡ narrowOf (ofFields binary64 s E t)
-  is-round h = sym (narrow-value (ofFields binary64 s E t) s (m * 2 ^ (E - 1)) (2 ^ 1074) (pow-pos 1074) (finite-at binary64 s E t h))
+  m-lt : m < 2 ^ (prec f + k)
+  m-lt = subst (λ (p : ℕ). m < 2 ^ p) P (significand-lt g E t H)
 
-  -- below the least normal value no digit is dropped in units of 2 ^ -149, and the significand is cut by 925 - (E - 1) places
-  low : E < 897 → ofBits binary32 (pattern binary32 s (0 * 2 ^ 23 + closest m (2 ^ (925 - (E - 1))))) ≡ narrowOf (ofFields binary64 s E t)
-  low h =
+  lows : low g ≡ low f + d + k
+  lows = omega (arith, two f)
+
+  is-round : E < ones g → round f s (m * 2 ^ (E - 1)) (2 ^ low g) ≡ narrowAt f (ofFields g s E t)
+  is-round h = sym (narrow-value f (ofFields g s E t) s (m * 2 ^ (E - 1)) (2 ^ low g) (pow-pos (low g)) (finite-at g s E t h))
+
+  -- below the least normal value no digit is dropped in units of the least value
+  subnormal-built : E ≤ d → ofBits f (pattern f s (0 * hid f + closest m (2 ^ cut))) ≡ narrowAt f (ofFields g s E t)
+  subnormal-built h =
       let j = E - 1 in
-      built binary32 s (m * 2 ^ j) (2 ^ 1074) m (2 ^ (925 - j)) 0 (pow-pos 1074) (pow-pos (925 - j))
-      (ap (λ (x : ℕ). x * 2 ^ (925 - j)) (join m j 149) ∙ join m (j + 149) (925 - j) ∙ ap (λ (x : ℕ). m * 2 ^ x) (all j (before E h)))
-      (lt-of-lt-of-le m-lt (subst (λ (x : ℕ). 2 ^ 53 ≤ x) (pow-add 2 24 (925 - j)) (pow-mono (room j (before E h)))))
+      built f s (m * 2 ^ j) (2 ^ low g) m (2 ^ cut) 0 (pow-pos (low g)) (pow-pos cut)
+      (ap (λ (x : ℕ). x * 2 ^ cut) (join m j (low f)) ∙ join m (j + low f) cut ∙ ap (λ (x : ℕ). m * 2 ^ x) (all j (low f) (low g) lows (omega arith)) ∙ ap (λ (x : ℕ). m * x) (sym (mul-one (2 ^ low g))))
+      (lt-of-lt-of-le m-lt (subst (λ (x : ℕ). 2 ^ (prec f + k) ≤ x) (pow-add 2 (prec f) cut) (pow-mono {i = prec f + k} {j = prec f + cut} (omega arith))))
       (λ l. absurd (lt-irrefl 0 l))
-      ∙ is-round (within E h)
+      ∙ is-round (omega arith)
     where
-      before : (E : ℕ) → E < 897 → E - 1 ≤ 895
-      before E h = omega arith
+      all : (j a b : ℕ) → b ≡ a + d + k → j ≤ d → j + a + (d + k - j) ≡ b
+      all j a b e h = omega arith
 
-      within : (E : ℕ) → E < 897 → E < 2047
-      within E h = omega arith
+  hids : hid f * 2 ^ k ≡ hid g
+  hids = sym (pow-add 2 (prec f - 1) k) ∙ ap (λ (x : ℕ). 2 ^ x) (omega (arith, two f))
 
-      all : (j : ℕ) → j ≤ 895 → j + 149 + (925 - j) ≡ 1074
-      all j h = omega arith
+  lead : d < E → hid f * 2 ^ k ≤ m
+  lead l = subst (λ (x : ℕ). x ≤ m) (sym hids) (subst (λ (x : ℕ). hid g ≤ x) (sym (normal g E t (omega arith))) (le-add-left (hid g) t))
 
-      room : (j : ℕ) → j ≤ 895 → 53 ≤ 24 + (925 - j)
-      room j h = omega arith
-
-  -- from there on 29 of the 53 digits are cut
-  high : 897 ≤ E → E < 2047 → ofBits binary32 (pattern binary32 s ((E - 897) * 2 ^ 23 + closest m (2 ^ 29))) ≡ narrowOf (ofFields binary64 s E t)
-  high l h =
+  -- from there on the k last digits are cut
+  normal-built : d < E → E < ones g → ofBits f (pattern f s ((E - suc d) * hid f + closest m (2 ^ k))) ≡ narrowAt f (ofFields g s E t)
+  normal-built l h =
       let j = E - 1 in
-      let k = E - 897 in
-      built binary32 s (m * 2 ^ j) (2 ^ 1074) m (2 ^ 29) k (pow-pos 1074) (pow-pos 29)
-      (ap (λ (x : ℕ). x * 2 ^ 29) (join m j 149) ∙ join m (j + 149) 29 ∙ ap (λ (x : ℕ). m * 2 ^ x) (all E l) ∙ ap (λ (x : ℕ). m * x) (pow-add 2 1074 k))
-      m-lt
-      (λ _. lead)
+      let i = E - suc d in
+      built f s (m * 2 ^ j) (2 ^ low g) m (2 ^ k) i (pow-pos (low g)) (pow-pos k)
+      (ap (λ (x : ℕ). x * 2 ^ k) (join m j (low f)) ∙ join m (j + low f) k ∙ ap (λ (x : ℕ). m * 2 ^ x) (all (low f) (low g) lows) ∙ ap (λ (x : ℕ). m * x) (pow-add 2 (low g) i))
+      (subst (λ (x : ℕ). m < x) (pow-add 2 (prec f) k) m-lt)
+      (λ _. lead l)
       ∙ is-round h
     where
-      all : (E : ℕ) → 897 ≤ E → E - 1 + 149 + 29 ≡ 1074 + (E - 897)
-      all E l = omega arith
+      all : (a b : ℕ) → b ≡ a + d + k → E - 1 + a + k ≡ b + (E - suc d)
+      all a b e = omega arith
 
-      first : (E : ℕ) → 897 ≤ E → 1 ≤ E
-      first E l = omega arith
+  sized : (n w : ℕ) → n ≤ last f → min w (last f) ≡ n → ofBits f (pattern f s w) ≡ narrowAt f (ofFields g s E t) → Sized f g s E t n
+  sized n w l e h = (l, ap (λ (x : ℕ). ofBits f (cond s (top f) 0 + x)) (sym e) ∙ h)
 
-      lead : 2 ^ 52 ≤ m
-      lead = subst (λ (x : ℕ). 2 ^ 52 ≤ x) (sym (normal E t (first E l))) (le-add-left (2 ^ 52) t)
-
-  sized : (n w : ℕ) → n ≤ 0x7f80_0000 → min w 0x7f80_0000 ≡ n → ofBits binary32 (pattern binary32 s w) ≡ narrowOf (ofFields binary64 s E t) → Sized s E t n
-  sized n w l e h = (l, ap (λ (x : ℕ). ofBits binary32 (cond s 0x8000_0000 0 + x)) (sym e) ∙ h)
+  within : (w y : ℕ) → w ≤ y → min w y ≡ w
+  within w y l = omega arith
 
   -- ---- the arms
 
-  pub arm-zero : E < 873 → Sized s E t 0
+  arm-zero : E + prec f ≤ d → Sized f g s E t 0
   arm-zero h =
-      let c = closest m (2 ^ (925 - (E - 1))) in
-      let z : 0 ≡ c = closest-zero m (2 ^ (925 - (E - 1))) (lt-of-lt-of-le (double m m-lt) (pow-mono {i = 54} {j = 925 - (E - 1)} (omega arith))) in
-      sized 0 (0 * 2 ^ 23 + c) (omega arith) (omega arith) (low (omega arith))
+      let c = closest m (2 ^ cut) in
+      let z : 0 ≡ c = closest-zero m (2 ^ cut) (lt-of-lt-of-le (shl-lt (prec f + k) 1 m-lt) (pow-mono {i = prec f + k + 1} {j = cut} (omega arith))) in
+      sized 0 (0 * hid f + c) zero-le (none c z) (subnormal-built (omega arith))
     where
-      double : (x : ℕ) → x < 2 ^ 53 → x * 2 < 2 ^ 54
-      double x l = omega arith
+      none : (c : ℕ) → 0 ≡ c → min (0 * hid f + c) (last f) ≡ 0
+      none c e = omega arith
 
-  pub arm-subnormal : 873 ≤ E → E < 897 → Sized s E t (closest (t + 2 ^ 52) (2 ^ (926 - E)))
+  arm-subnormal : d < E + prec f → E ≤ d → Sized f g s E t (closest (t + hid g) (2 ^ (suc (d + k) - E)))
   arm-subnormal l h =
-      let c = closest m (2 ^ (925 - (E - 1))) in
-      let same : c ≡ closest (t + 2 ^ 52) (2 ^ (926 - E)) = ap (λ (x : ℕ). closest x (2 ^ (925 - (E - 1)))) (normal E t (omega arith)) ∙ ap (λ (x : ℕ). closest (t + 2 ^ 52) (2 ^ x)) (by E (omega arith)) in
-      let small : c ≤ 2 ^ 24 = closest-le m (2 ^ (925 - (E - 1))) (2 ^ 24) (pow-pos (925 - (E - 1))) (lt-of-lt-of-le m-lt (subst (λ (x : ℕ). 2 ^ 53 ≤ x) (pow-add 2 24 (925 - (E - 1))) (pow-mono {i = 53} {j = 24 + (925 - (E - 1))} (omega arith)))) in
-      subst (λ (x : ℕ). Sized s E t x) same (sized c (0 * 2 ^ 23 + c) (omega arith) (omega arith) (low h))
-    where
-      by : (E : ℕ) → 1 ≤ E → 925 - (E - 1) ≡ 926 - E
-      by E l = omega arith
+      let c = closest m (2 ^ cut) in
+      let same : c ≡ closest (t + hid g) (2 ^ (suc (d + k) - E)) = ap (λ (x : ℕ). closest x (2 ^ cut)) (normal g E t (omega arith)) ∙ ap (λ (x : ℕ). closest (t + hid g) (2 ^ x)) (omega arith) in
+      let small : c ≤ 2 ^ prec f = closest-le m (2 ^ cut) (2 ^ prec f) (pow-pos cut) (lt-of-lt-of-le m-lt (subst (λ (x : ℕ). 2 ^ (prec f + k) ≤ x) (pow-add 2 (prec f) cut) (pow-mono {i = prec f + k} {j = prec f + cut} (omega arith)))) in
+      let fit : 0 * hid f + c ≤ last f = in-reach f 0 c (omega (arith, two f, reach f)) small in
+      subst (λ (x : ℕ). Sized f g s E t x) same (sized c (0 * hid f + c) (omega arith) (omega arith) (subnormal-built h))
 
-  -- the field and the digits are cut as one number, of which the field is an even number of 2 ^ 29
-  pub arm-normal : (n : ℕ) → n ≡ (E - 897) * 2 ^ 52 + (t + 2 ^ 52) → 897 ≤ E → E < 1151 → Sized s E t (closest n (2 ^ 29))
+  -- the field and the digits are cut as one number, of which the field is an even number of 2 ^ k
+  arm-normal : (n : ℕ) → n ≡ (E - suc d) * hid g + (t + hid g) → d < E → E < ones f + d → Sized f g s E t (closest n (2 ^ k))
   arm-normal n e l h =
-      let j = (E - 897) * 2 ^ 22 in
-      let c = closest m (2 ^ 29) in
-      let small : c ≤ 2 ^ 24 = closest-le m (2 ^ 29) (2 ^ 24) (pow-pos 29) m-lt in
-      let same : closest n (2 ^ 29) ≡ 2 * j + c = ap (λ (x : ℕ). closest x (2 ^ 29)) (e ∙ weigh (E - 897) (t + 2 ^ 52)) ∙ closest-plus j (t + 2 ^ 52) (2 ^ 29) (pow-pos 29) ∙ ap (λ (x : ℕ). 2 * j + closest x (2 ^ 29)) (sym (normal E t (omega arith))) in
-      subst (λ (x : ℕ). Sized s E t x) (sym same) (sized (2 * j + c) ((E - 897) * 2 ^ 23 + c) (omega arith) (omega arith) (high l (omega arith)))
-    where
-      weigh : (k a : ℕ) → k * 2 ^ 52 + a ≡ 2 * (k * 2 ^ 22) * 2 ^ 29 + a
-      weigh k a = omega arith
+      let i = E - suc d in
+      let c = closest m (2 ^ k) in
+      let small : c ≤ 2 ^ prec f = closest-le m (2 ^ k) (2 ^ prec f) (pow-pos k) (subst (λ (x : ℕ). m < x) (pow-add 2 (prec f) k) m-lt) in
+      let fit : i * hid f + c ≤ last f = in-reach f i c (omega arith) small in
+      let even : i * hid f ≡ 2 * (i * 2 ^ (prec f - 1 - 1)) = ap (λ (x : ℕ). i * x) (twice (prec f - 1) (omega (arith, two f))) ∙ mul-left-comm i 2 (2 ^ (prec f - 1 - 1)) in
+      let same : closest n (2 ^ k) ≡ i * hid f + c =
+      ap (λ (x : ℕ). closest x (2 ^ k)) (e ∙ ap (λ (x : ℕ). i * x + (t + hid g)) (sym hids) ∙ ap (λ (x : ℕ). x + (t + hid g)) (sym (mul-assoc i (hid f) (2 ^ k)) ∙ ap (λ (x : ℕ). x * 2 ^ k) even))
+      ∙ closest-plus (i * 2 ^ (prec f - 1 - 1)) (t + hid g) (2 ^ k) (pow-pos k)
+      ∙ ap (λ (x : ℕ). x + closest (t + hid g) (2 ^ k)) (sym even)
+      ∙ ap (λ (x : ℕ). i * hid f + closest x (2 ^ k)) (sym (normal g E t (omega arith))) in
+      subst (λ (x : ℕ). Sized f g s E t x) (sym same) (sized (i * hid f + c) (i * hid f + c) fit (within (i * hid f + c) (last f) fit) (normal-built l (omega arith)))
 
-  pub arm-infinite : 1151 ≤ E → E < 2047 → Sized s E t 0x7f80_0000
+  arm-infinite : ones f + d ≤ E → E < ones g → Sized f g s E t (last f)
   arm-infinite l h =
-      let c = closest m (2 ^ 29) in
-      let large : 2 ^ 23 ≤ c = closest-ge m (2 ^ 29) (2 ^ 23) (pow-pos 29) (subst (λ (x : ℕ). 2 ^ 52 ≤ x) (sym (normal E t (omega arith))) (le-add-left (2 ^ 52) t)) in
-      sized 0x7f80_0000 ((E - 897) * 2 ^ 23 + c) (omega arith) (omega arith) (high (omega arith) h)
+      let i = E - suc d in
+      let c = closest m (2 ^ k) in
+      let large : hid f ≤ c = closest-ge m (2 ^ k) (hid f) (pow-pos k) (lead (omega arith)) in
+      let past : last f ≤ i * hid f + hid f = le-trans (mul-le-mul-right (hid f) (omega arith)) (le-of-eq (suc-mul i (hid f))) in
+      sized (last f) (i * hid f + c) (le-refl (last f)) (omega arith) (normal-built (omega arith) h)
 
 -- the last field
-pub arm-last : (s : Bool) (E t : ℕ) → E ≡ 2047 → T (not (isNan (ofFields binary64 s E t))) → Sized s E t 0x7f80_0000
-unfolding narrowOf ofBits
-arm-last s E t e h = (le-refl 0x7f80_0000, go s ∙ sym (ap narrowOf (infinite-at binary64 s E t e h)))
-  where
-    go : (s : Bool) → ofBits binary32 (cond s 0x8000_0000 0 + 0x7f80_0000) ≡ inf s
-    go true = refl
-    go false = refl
+arm-last : (f g : Format) (s : Bool) (E t : ℕ) → E ≡ ones g → T (not (isNan (ofFields g s E t))) → Sized f g s E t (last f)
+unfolding narrowAt toBits fits
+arm-last f g s E t e h = (le-refl (last f), ofBits-toBits f (inf s) tt ∙ sym (ap (narrowAt f) (infinite-at g s E t e h)))
 
--- ---- a value of binary32 is kept
+-- ---- a value of the format is kept
 
-finite-kept : (s : Bool) (E t : ℕ) → t < 2 ^ 23 → E < 255 → T (fits binary32 (ofFields binary32 s E t)) → narrowOf (ofFields binary32 s E t) ≡ ofFields binary32 s E t
-finite-kept s E t T23 h f =
-    let v = ofFields binary32 s E t in
-    let q = significand binary32 E t in
+finite-kept : (f : Format) (s : Bool) (E t : ℕ) → t < hid f → E < ones f → T (fits f (ofFields f s E t)) → narrowAt f (ofFields f s E t) ≡ ofFields f s E t
+finite-kept f s E t H h w =
+    let v = ofFields f s E t in
+    let q = significand f E t in
     let j = E - 1 in
-    let is : HasValue v s (q * 2 ^ j) (2 ^ 149) = finite-at binary32 s E t h in
-    let q-lt : q < 2 ^ 24 = significand-lt binary32 E t T23 in
-    narrow-value v s (q * 2 ^ j) (2 ^ 149) (pow-pos 149) is
-    ∙ same-value binary32 (round binary32 s (q * 2 ^ j) (2 ^ 149)) v s (q * 2 ^ j) (round-fits binary32 s (q * 2 ^ j) (2 ^ 149)) f
-    (round-exact binary32 s (q * 2 ^ j) (2 ^ 149) q j (pow-pos 149) q-lt (lt-of-lt-of-le (shl-lt 24 j q-lt) (pow-mono {i = 24 + j} {j = 277} (omega arith))) refl)
+    let is : HasValue v s (q * 2 ^ j) (2 ^ low f) = finite-at f s E t h in
+    let q-lt : q < 2 ^ prec f = significand-lt f E t H in
+    narrow-value f v s (q * 2 ^ j) (2 ^ low f) (pow-pos (low f)) is
+    ∙ same-value f (round f s (q * 2 ^ j) (2 ^ low f)) v s (q * 2 ^ j) (round-fits f s (q * 2 ^ j) (2 ^ low f)) w
+    (round-exact f s (q * 2 ^ j) (2 ^ low f) q j (pow-pos (low f)) q-lt (lt-of-lt-of-le (shl-lt (prec f) j q-lt) (pow-mono {i = prec f + j} {j = low f + suc (emax f)} (omega (arith, two f, reach f)))) refl)
     is
 
-kept-at : (s : Bool) (E t : ℕ) → t < 2 ^ 23 → E ≤ 255 → T (not (isNan (ofFields binary32 s E t))) → T (fits binary32 (ofFields binary32 s E t)) → narrowOf (ofFields binary32 s E t) ≡ ofFields binary32 s E t
-unfolding narrowOf
-kept-at s E t T23 l n f = elim (eq-or-lt-of-le l) [
-  | inl e ↦ let g = infinite-at binary32 s E t e n in ap narrowOf g ∙ sym g
-  | inr h ↦ finite-kept s E t T23 h f
+kept-at : (f : Format) (s : Bool) (E t : ℕ) → t < hid f → E ≤ ones f → T (not (isNan (ofFields f s E t))) → T (fits f (ofFields f s E t)) → narrowAt f (ofFields f s E t) ≡ ofFields f s E t
+unfolding narrowAt
+kept-at f s E t H l n w = elim (eq-or-lt-of-le l) [
+  | inl e ↦ let g = infinite-at f s E t e n in ap (narrowAt f) g ∙ sym g
+  | inr h ↦ finite-kept f s E t H h w
 ]
 
-number-kept : (x : Float) → T (fits binary32 x) → T (not (isNan x)) → narrowOf x ≡ x
-number-kept x f n =
-    let b = toBits binary32 x in
-    subst (λ (v : Float). narrowOf v ≡ v) (read binary32 x f)
-    (kept-at (leb (2 ^ 31) b) (b % 2 ^ 31 / 2 ^ 23) (b % 2 ^ 23) (digits-in binary32 b) (field-in binary32 b) (subst (λ (v : Float). T (not (isNan v))) (sym (read binary32 x f)) n) (subst (λ (v : Float). T (fits binary32 v)) (sym (read binary32 x f)) f))
+number-kept : (f : Format) (x : Float) → T (fits f x) → T (not (isNan x)) → narrowAt f x ≡ x
+number-kept f x h n =
+    let b = toBits f x in
+    subst (λ (v : Float). narrowAt f v ≡ v) (read f x h)
+    (kept-at f (leb (top f) b) (b % top f / hid f) (b % hid f) (digits-in f b) (field-in f b) (subst (λ (v : Float). T (not (isNan v))) (sym (read f x h)) n) (subst (λ (v : Float). T (fits f v)) (sym (read f x h)) h))
 
-pub narrow-kept : (x : Float) → T (fits binary32 x) → narrowOf x ≡ x
-unfolding narrowOf isNan
-narrow-kept nan f = refl
-narrow-kept (inf s) f = refl
-narrow-kept (fin s m e) f = number-kept (fin s m e) f tt
+pub narrow-kept : (f : Format) (x : Float) → T (fits f x) → narrowAt f x ≡ x
+unfolding narrowAt isNan
+narrow-kept f nan h = refl
+narrow-kept f (inf s) h = refl
+narrow-kept f (fin s m e) h = number-kept f (fin s m e) h tt
+
+-- ---- from f64 to f32
+
+-- how many digits fewer, and by how much the field of the same exponent is less
+abbrev pub fewer : ℕ
+fewer = prec binary64 - prec binary32
+
+abbrev pub rebias : ℕ
+rebias = emax binary64 - emax binary32
+
+module _ (s : Bool) (E t : ℕ) (H : t < hid binary64) where
+  -- n is the pattern, without its sign
+  abbrev pub Narrowed : ℕ → Type 0
+  Narrowed n = Sized binary32 binary64 s E t n
+
+  pub to-zero : E + prec binary32 ≤ rebias → Narrowed 0
+  to-zero = arm-zero binary32 binary64 fewer rebias refl refl (lit≤ tt) s E t H
+
+  pub to-subnormal : rebias < E + prec binary32 → E ≤ rebias → Narrowed (closest (t + hid binary64) (2 ^ (suc (rebias + fewer) - E)))
+  to-subnormal = arm-subnormal binary32 binary64 fewer rebias refl refl (lit≤ tt) s E t H
+
+  pub to-normal : (n : ℕ) → n ≡ (E - suc rebias) * hid binary64 + (t + hid binary64) → rebias < E → E < ones binary32 + rebias → Narrowed (closest n (2 ^ fewer))
+  to-normal = arm-normal binary32 binary64 fewer rebias refl refl (lit≤ tt) s E t H
+
+  pub to-infinite : ones binary32 + rebias ≤ E → E < ones binary64 → Narrowed (last binary32)
+  to-infinite = arm-infinite binary32 binary64 fewer rebias refl refl (lit≤ tt) s E t H
+
+  pub to-last : E ≡ ones binary64 → T (not (isNan (ofFields binary64 s E t))) → Narrowed (last binary32)
+  to-last = arm-last binary32 binary64 s E t

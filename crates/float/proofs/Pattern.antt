@@ -5,7 +5,7 @@ use mathlib.Core.Path.{_≡_, refl, sym, ap, _∙_, subst}
 use mathlib.Core.Logic.{_⊎_, inl, inr}
 use mathlib.Core.Bool.{Bool, true, false, not, cond}
 use Prim.Native.Nat.{ℕ, zero, suc, _+_, _-_, _*_, _/_, _^_, _≤_, _<_, min}
-use native.Mathlib.Nat.{le-antisymm, le-refl, le-trans, le-of-eq, le-of-lt, zero-lt-suc, lt-of-lt-of-le, lt-of-le-of-lt, lt-of-not-le, lt-irrefl, eq-or-lt-of-le, zero-add, zero-mul, one-mul, mul-one, mul-assoc, mul-comm, add-assoc, add-mul, suc-mul, mul-le-mul-left, mul-le-mul-right, mul-lt-mul-of-pos-right, div-one, mul-div-cancel, pow-succ', mul-pos, div-div-eq-div-mul, div-lt-iff-lt-mul, le-div-iff-mul-le}
+use native.Mathlib.Nat.{le-antisymm, le-refl, le-trans, le-of-eq, le-of-lt, zero-lt-suc, lt-of-lt-of-le, lt-of-le-of-lt, lt-of-not-le, lt-irrefl, eq-or-lt-of-le, zero-add, zero-mul, one-mul, mul-one, mul-assoc, mul-comm, mul-left-comm, add-assoc, add-mul, suc-mul, mul-le-mul-left, mul-le-mul-right, mul-lt-mul-of-pos-right, div-one, mul-div-cancel, pow-suc, pow-succ', mul-pos, div-div-eq-div-mul, div-lt-iff-lt-mul, le-div-iff-mul-le}
 use native.Mathlib.Decide.{decLe}
 use native.Mathlib.Omega.{arith}
 use lib.Dec.{T, ltb, ltb→lt, nltb→le}
@@ -30,6 +30,13 @@ product-lt i j {a} {b} h l = subst (λ (x : ℕ). a * b < x) (sym (pow-add 2 i j
 pub join : (m i j : ℕ) → m * 2 ^ i * 2 ^ j ≡ m * 2 ^ (i + j)
 join m i j = mul-assoc m (2 ^ i) (2 ^ j) ∙ ap (λ (x : ℕ). m * x) (sym (pow-add 2 i j))
 
+pub four-pow : (k : ℕ) → 4 ^ k ≡ 2 ^ k * 2 ^ k
+four-pow zero = refl
+four-pow (suc k) = pow-suc 4 k ∙ ap (λ (x : ℕ). x * 4) (four-pow k) ∙ sym (ap (λ (x : ℕ). x * x) (pow-suc 2 k) ∙ four (2 ^ k))
+  where
+    four : (x : ℕ) → x * 2 * (x * 2) ≡ x * x * 4
+    four x = simp (mul-assoc, mul-comm, mul-left-comm) (omega arith)
+
 size-exact : (n j : ℕ) → 2 ^ j ≤ n → n < 2 ^ suc j → size n ≡ suc j
 size-exact n j lo hi = le-antisymm (size-le n (suc j) hi) (pow-lt-back j (size n) (lt-of-le-of-lt lo (size-lt n)))
 
@@ -39,6 +46,9 @@ twice p h = ap (λ (x : ℕ). 2 ^ x) (go p h) ∙ pow-succ' 2 (p - 1)
   where
     go : (p : ℕ) → 0 < p → p ≡ suc (p - 1)
     go p h = omega arith
+
+pub twice-hid : (f : Format) → 2 ^ prec f ≡ 2 * hid f
+twice-hid f = twice (prec f) (two-le-pos (prec f) (two f))
 
 -- ---- a units are written as the pattern w, in a format of p digits
 
@@ -122,6 +132,10 @@ same-value f v w s a p q h k = sym (ofBits-toBits f v p) ∙ ap (ofBits f) (toBi
 
 -- ---- the infinity's pattern is where the values end
 
+-- without its sign
+abbrev pub last : Format → ℕ
+last f = ones f * hid f
+
 module _ (f : Format) (a w : ℕ) where
   abbrev h : ℕ
   h = hid f
@@ -134,7 +148,7 @@ module _ (f : Format) (a w : ℕ) where
   under-last l (inr (k, q, g, t, e, e′)) =
       let b : prec f - 1 + k < low f + suc (emax f) = pow-lt-back (prec f - 1 + k) (low f + suc (emax f)) (lt-of-le-of-lt (at-least (prec f) q k g) (subst (λ (x : ℕ). x < 2 ^ (low f + suc (emax f))) e l)) in
       le-trans (le-of-eq e′)
-      (le-trans (step (k * h) q h (2 ^ prec f) (twice (prec f) (two-le-pos (prec f) (two f))) t)
+      (le-trans (step (k * h) q h (2 ^ prec f) (twice-hid f) t)
       (le-trans (le-of-eq (sym (add-mul k 2 h))) (mul-le-mul-right h (room (prec f) (emax f) k (two f) b))))
     where
       step : (x q h z : ℕ) → z ≡ 2 * h → q < z → x + q ≤ x + 2 * h
@@ -158,9 +172,16 @@ module _ (f : Format) (a w : ℕ) where
       room : (p m k : ℕ) → 2 ≤ p → m + p - 2 + suc m < p + k → 2 * m + 1 ≤ suc k
       room p m k u l = omega arith
 
+-- a field i and the digits q, which may have been rounded up to 2 ^ prec, are no more than the infinity's pattern
+pub in-reach : (f : Format) (i q : ℕ) → i + 2 ≤ ones f → q ≤ 2 ^ prec f → i * hid f + q ≤ last f
+in-reach f i q l h = le-trans (step (i * hid f) (hid f) (2 ^ prec f) (twice-hid f) h) (le-trans (le-of-eq (sym (add-mul i 2 (hid f)))) (mul-le-mul-right (hid f) l))
+  where
+    step : (x h z : ℕ) → z ≡ 2 * h → q ≤ z → x + q ≤ x + 2 * h
+    step x h z e l = omega arith
+
 -- the pattern w with the sign s, and the infinity's where w is past it
 abbrev pub pattern : Format → Bool → ℕ → ℕ
-pattern f s w = cond s (top f) 0 + min w (ones f * hid f)
+pattern f s w = cond s (top f) 0 + min w (last f)
 
 toBits-units : (f : Format) (s : Bool) (q k w : ℕ) → Written (prec f) (q * 2 ^ k) w → toBits f (units f s q k) ≡ pattern f s w
 unfolding units
@@ -178,8 +199,8 @@ toBits-units f s q k w g = go (ltb (q * 2 ^ k) (2 ^ (low f + suc (emax f)))) (lt
         let a = q * 2 ^ k in
         toBits-of f (odd (suc (prec f)) s q k (low f)) s a (odd-sign (suc (prec f)) s q k (low f))
         ∙ add-assoc (cond s (top f) 0) ((size a - prec f) * hid f) (a / 2 ^ (size a - prec f))
-        ∙ ap (λ (x : ℕ). cond s (top f) 0 + x) (field-digits (prec f) a w (two-le-pos (prec f) (two f)) g ∙ left w (ones f * hid f) (under-last f a w (l tt) g))
-    go false l n = unfold toBits in ap (λ (x : ℕ). cond s (top f) 0 + x) (right w (ones f * hid f) (over-last f (q * 2 ^ k) w (n tt) g))
+        ∙ ap (λ (x : ℕ). cond s (top f) 0 + x) (field-digits (prec f) a w (two-le-pos (prec f) (two f)) g ∙ left w (last f) (under-last f a w (l tt) g))
+    go false l n = unfold toBits in ap (λ (x : ℕ). cond s (top f) 0 + x) (right w (last f) (over-last f (q * 2 ^ k) w (n tt) g))
 
 -- ---- a fraction's rounding, by any fraction a / b that it equals in units of 2 ^ k least values, if its whole part has the format's digits
 

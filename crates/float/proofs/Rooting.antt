@@ -1,19 +1,20 @@
--- The rounding of a whole-number root: what `root` builds is `rootOf`. Assumes nothing.
--- For n = c * 4 ^ j the root of n, cut, begins with the 25 digits of q = isqrt c. The rounded root is half of q, rounded up: c is even, so where q is odd its square is no c, and there is more behind it.
+-- The rounding of a whole-number root, for either format: what `root` builds is `rootAt`. Assumes nothing.
+-- For n = c * 4 ^ j the root of n, cut, begins with the prec + 1 digits of q = isqrt c. The rounded root is half of q, rounded up: c is even, so where q is odd its square is no c, and there is more behind it.
 use mathlib.Core.Path.{_≡_, sym, ap, subst, _∙_}
 use mathlib.Core.Bool.{false, not}
-use Prim.Native.Nat.{ℕ, suc, _+_, _-_, _*_, _/_, _%_, _^_, _≤_, _<_, min}
-use native.Mathlib.Nat.{le-trans, le-of-eq, lt-of-lt-of-le, lt-of-le-of-lt, mul-assoc, mul-comm, mul-left-comm, mul-add, add-mul, mul-one, one-mul, mul-le-mul, mul-le-mul-right, mul-lt-mul-of-pos-right, pow-succ', div-add-mod'}
+use Prim.Native.Nat.{ℕ, zero, suc, _+_, _-_, _*_, _/_, _%_, _^_, _≤_, _<_, min}
+use native.Mathlib.Nat.{le-trans, le-of-eq, le-of-lt, lt-irrefl, lt-of-lt-of-le, lt-of-le-of-lt, mul-assoc, mul-comm, mul-left-comm, mul-add, add-mul, mul-suc, mul-one, one-mul, mul-le-mul, mul-le-mul-right, mul-lt-mul-of-pos-right, pow-succ', div-add-mod'}
 use native.Mathlib.Omega.{arith}
-use lib.Dec.{T, lit<}
-use lib.Pow.{pow-pos, pow-mono}
-use lib.Ieee.{binary32, isNan, units, ofBits}
+use lib.Dec.{T, lit≤}
+use lib.Pow.{pow-add, pow-pos, pow-mono}
+use lib.Ieee.{Format, binary32, binary64, prec, emax, low, hid, isNan, units, ofBits}
+use lib.Ieee.Fits.{two}
 use lib.Bits.{shifted-even}
 use lib.Ieee.Nearest.{closest}
-use Rattle.float.specs.Root.{isqrt, rootOf}
+use Rattle.float.specs.Root.{isqrt, raised, rootAt}
 use Rattle.float.proofs.Closest.{closest-cut}
-use Rattle.float.proofs.Isqrt.{isqrt-is, isqrt-ge, isqrt-lt, square-suc}
-use Rattle.float.proofs.Pattern.{join, pattern, round-by, built, round-no-nan}
+use Rattle.float.proofs.Isqrt.{isqrt-is, isqrt-ge, isqrt-lt, double, square-suc}
+use Rattle.float.proofs.Pattern.{join, twice-hid, last, in-reach, pattern, round-by, built, round-no-nan}
 
 -- ---- squares
 
@@ -57,101 +58,142 @@ module _ (c h : ℕ) (even : c % 2 ≡ 0) where
 
 -- ---- the rounding
 
-module _ (c j : ℕ) (even : c % 2 ≡ 0) (lo : 2 ^ 48 ≤ c) (hi : c < (2 ^ 25 - 1) * (2 ^ 25 - 1)) (J : 27 ≤ j) where
+module _ (f : Format) (c j : ℕ) (even : c % 2 ≡ 0) (lo : 2 ^ prec f * 2 ^ prec f ≤ c) (hi : c < (2 * 2 ^ prec f - 1) * (2 * 2 ^ prec f - 1)) (J : prec f + 2 ≤ j) where
   abbrev h : ℕ
   h = 2 ^ j
 
-  q-ge : 2 ^ 24 ≤ isqrt c
-  q-ge = isqrt-ge c (2 ^ 24) lo
+  abbrev z : ℕ
+  z = 2 ^ prec f
 
-  q-lt : isqrt c < 2 ^ 25 - 1
-  q-lt = isqrt-lt c (2 ^ 25 - 1) hi
+  abbrev n : ℕ
+  n = c * h * h
 
-  halved : (isqrt c + 1) / 2 ≡ closest (isqrt (c * h * h)) (2 ^ suc j)
+  q-ge : z ≤ isqrt c
+  q-ge = isqrt-ge c z lo
+
+  q-lt : isqrt c < 2 * z - 1
+  q-lt = isqrt-lt c (2 * z - 1) hi
+
+  halved : (isqrt c + 1) / 2 ≡ closest (isqrt n) (2 ^ suc j)
   halved =
-      subst (λ (u : ℕ). (isqrt c + 1) / 2 ≡ closest (isqrt (c * h * h)) u) (sym (pow-succ' 2 j))
-      (closest-cut (isqrt (c * h * h)) (isqrt c) h (cut-ge c h even) (cut-lt c h even (pow-pos j)) (cut-more c h even (le-trans (room (isqrt c) q-lt) (pow-mono J))))
+      subst (λ (u : ℕ). (isqrt c + 1) / 2 ≡ closest (isqrt n) u) (sym (pow-succ' 2 j))
+      (closest-cut (isqrt n) (isqrt c) h (cut-ge c h even) (cut-lt c h even (pow-pos j)) (cut-more c h even (le-trans (room (isqrt c) z (2 ^ (prec f + 2)) (pow-add 2 (prec f) 2) q-lt) (pow-mono J))))
     where
-      room : (q : ℕ) → q < 2 ^ 25 - 1 → 2 * q + 1 ≤ 2 ^ 27
-      room q l = omega arith
+      room : (q z y : ℕ) → y ≡ z * 4 → q < 2 * z - 1 → 2 * q + 1 ≤ y
+      room q z y e l = omega arith
 
-  fine : isqrt (c * h * h) < 2 ^ 24 * 2 ^ suc j
-  fine =
-      lt-of-lt-of-le (cut-lt c h even (pow-pos j))
-      (le-trans (mul-le-mul-right h (top (isqrt c) q-lt)) (le-of-eq (mul-assoc (2 ^ 24) 2 h ∙ ap (λ (x : ℕ). 2 ^ 24 * x) (sym (pow-succ' 2 j)))))
+  fine : isqrt n < z * 2 ^ suc j
+  fine = lt-of-lt-of-le (cut-lt c h even (pow-pos j)) (le-trans (mul-le-mul-right h (top (isqrt c) z q-lt)) (le-of-eq (mul-assoc z 2 h ∙ ap (λ (x : ℕ). z * x) (sym (pow-succ' 2 j)))))
     where
-      top : (q : ℕ) → q < 2 ^ 25 - 1 → q + 1 ≤ 2 ^ 24 * 2
-      top q l = omega arith
+      top : (q z : ℕ) → q < 2 * z - 1 → q + 1 ≤ z * 2
+      top q z l = omega arith
 
-  lead : 2 ^ 23 * 2 ^ suc j ≤ isqrt (c * h * h)
+  lead : hid f * 2 ^ suc j ≤ isqrt n
   lead =
-      le-trans (le-of-eq (ap (λ (x : ℕ). 2 ^ 23 * x) (pow-succ' 2 j) ∙ sym (mul-assoc (2 ^ 23) 2 h)))
+      le-trans (le-of-eq (ap (λ (x : ℕ). hid f * x) (pow-succ' 2 j) ∙ sym (mul-assoc (hid f) 2 h) ∙ ap (λ (x : ℕ). x * h) (mul-comm (hid f) 2 ∙ sym (twice-hid f))))
       (le-trans (mul-le-mul-right h q-ge) (cut-ge c h even))
 
-  root-units : rootOf (c * h * h) ≡ units binary32 false ((isqrt c + 1) / 2) (suc j)
-  unfolding rootOf
+  root-units : rootAt f n ≡ units f false ((isqrt c + 1) / 2) (suc j)
+  unfolding rootAt
   root-units =
-      round-by binary32 false (isqrt (c * h * h)) (2 ^ 149) (isqrt (c * h * h)) (2 ^ suc j) (suc j) (pow-pos 149) (pow-pos (suc j)) (mul-assoc (isqrt (c * h * h)) (2 ^ 149) (2 ^ suc j)) fine (λ _. lead)
-      ∙ ap (λ (x : ℕ). units binary32 false x (suc j)) (sym halved)
+      round-by f false (isqrt n) (2 ^ low f) (isqrt n) (2 ^ suc j) (suc j) (pow-pos (low f)) (pow-pos (suc j)) (mul-assoc (isqrt n) (2 ^ low f) (2 ^ suc j)) fine (λ _. lead)
+      ∙ ap (λ (x : ℕ). units f false x (suc j)) (sym halved)
 
-  root-built : ofBits binary32 (pattern binary32 false (suc j * 2 ^ 23 + (isqrt c + 1) / 2)) ≡ rootOf (c * h * h)
-  unfolding rootOf
+  root-built : ofBits f (pattern f false (suc j * hid f + (isqrt c + 1) / 2)) ≡ rootAt f n
+  unfolding rootAt
   root-built =
-      ap (λ (x : ℕ). ofBits binary32 (pattern binary32 false (suc j * 2 ^ 23 + x))) halved
-      ∙ built binary32 false (isqrt (c * h * h)) (2 ^ 149) (isqrt (c * h * h)) (2 ^ suc j) (suc j) (pow-pos 149) (pow-pos (suc j)) (mul-assoc (isqrt (c * h * h)) (2 ^ 149) (2 ^ suc j)) fine (λ _. lead)
+      ap (λ (x : ℕ). ofBits f (pattern f false (suc j * hid f + x))) halved
+      ∙ built f false (isqrt n) (2 ^ low f) (isqrt n) (2 ^ suc j) (suc j) (pow-pos (low f)) (pow-pos (suc j)) (mul-assoc (isqrt n) (2 ^ low f) (2 ^ suc j)) fine (λ _. lead)
 
--- ---- m * 2 ^ t, for an m of 24 digits: the exponent's parity says how many digits c has, 49 or 50
+-- ---- m * 2 ^ t, for an m of prec digits: c * 4 ^ (places - 1), where the parity of t - prec says whether c has 2 * prec + 2 digits or one less
 
-module _ (m t : ℕ) (lo : 2 ^ 23 ≤ m) (hi : m < 2 ^ 24) (L : 100 ≤ t) (H : t ≤ 402) where
-  abbrev pub radicand : ℕ
-  radicand = m * 2 ^ (26 - t % 2)
+abbrev pub radicand : Format → ℕ → ℕ → ℕ
+radicand f m t = m * 2 ^ (prec f + 2 - (t + prec f) % 2)
 
-  -- what `root` hands to `nearest_root` is a quarter of it
-  pub radicand-four : 4 * (m * 2 ^ (24 - t % 2)) ≡ radicand
-  radicand-four = mul-comm 4 (m * 2 ^ (24 - t % 2)) ∙ join m (24 - t % 2) 2 ∙ ap (λ (x : ℕ). m * 2 ^ x) (two t)
+-- how many digits of the root are dropped, in units of the least value
+abbrev pub dropped : Format → ℕ → ℕ
+dropped f t = (t + 1 - prec f) / 2
+
+-- the root's digits
+abbrev pub rootDigits : Format → ℕ → ℕ → ℕ
+rootDigits f m t = (isqrt (radicand f m t) + 1) / 2
+
+-- what `root` hands to `nearest_root` is a quarter of c
+pub radicand-four : (f : Format) (m t : ℕ) → 4 * (m * 2 ^ (prec f - (t + prec f) % 2)) ≡ radicand f m t
+radicand-four f m t = let i = prec f - (t + prec f) % 2 in mul-comm 4 (m * 2 ^ i) ∙ join m i 2 ∙ ap (λ (x : ℕ). m * 2 ^ x) (omega (arith, two f))
+
+-- the exponents go down so far that there is room below the digits of a root of the least value
+deep : (f : Format) → 3 * prec f + 8 ≤ emax f
+deep binary32 = lit≤ tt
+deep binary64 = lit≤ tt
+
+under-square : (z : ℕ) → 0 < z → (z - 1) * (z * 4) < (2 * z - 1) * (2 * z - 1)
+under-square zero h = absurd (lt-irrefl 0 h)
+under-square (suc y) h =
+    let a : suc y - 1 ≡ y = omega arith in
+    let b : 2 * suc y - 1 ≡ suc (2 * y) = omega arith in
+    let e : y * (suc y * 4) ≡ (y * y + y) * 4 = sym (mul-assoc y (suc y) 4) ∙ ap (λ (x : ℕ). x * 4) (mul-suc y y) in
+    rw (a, b) (omega (arith, square-suc (2 * y), double y))
+
+-- t is that of a pattern below the raised infinity
+module _ (f : Format) (m t : ℕ) (lo : hid f ≤ m) (hi : m < 2 ^ prec f) (L : raised f ≤ t) (H : t < low f + 2 * emax f) where
+  abbrev c : ℕ
+  c = radicand f m t
+
+  abbrev half : ℕ
+  half = dropped f t - 1
+
+  pub radicand-even : c % 2 ≡ 0
+  radicand-even = ap (λ (x : ℕ). m * 2 ^ x % 2) (one-less (prec f) t) ∙ shifted-even m (prec f + 1 - (t + prec f) % 2)
     where
-      two : (t : ℕ) → 24 - t % 2 + 2 ≡ 26 - t % 2
-      two t = omega arith
+      one-less : (p t : ℕ) → p + 2 - (t + p) % 2 ≡ suc (p + 1 - (t + p) % 2)
+      one-less p t = omega arith
 
-  abbrev pub half : ℕ
-  half = (t - 23) / 2 - 1
+  pub radicand-ge : 2 ^ prec f * 2 ^ prec f ≤ c
+  radicand-ge =
+      let z = 2 ^ prec f in
+      le-trans (le-of-eq (ap (λ (x : ℕ). x * z) (twice-hid f ∙ mul-comm 2 (hid f)) ∙ mul-assoc (hid f) 2 z ∙ ap (λ (x : ℕ). hid f * x) (mul-comm 2 z ∙ sym (pow-add 2 (prec f) 1))))
+      (mul-le-mul lo (pow-mono {i = prec f + 1} {j = prec f + 2 - (t + prec f) % 2} (omega arith)))
 
-  pub radicand-even : radicand % 2 ≡ 0
-  radicand-even = ap (λ (x : ℕ). m * 2 ^ x % 2) (one-less t) ∙ shifted-even m (25 - t % 2)
+  pub radicand-lt : c < (2 * 2 ^ prec f - 1) * (2 * 2 ^ prec f - 1)
+  radicand-lt =
+      lt-of-le-of-lt (mul-le-mul {n₂ = 2 ^ prec f - 1} (omega arith) (pow-mono {i = prec f + 2 - (t + prec f) % 2} {j = prec f + 2} (omega arith)))
+      (subst (λ (x : ℕ). (2 ^ prec f - 1) * x < (2 * 2 ^ prec f - 1) * (2 * 2 ^ prec f - 1)) (sym (pow-add 2 (prec f) 2)) (under-square (2 ^ prec f) (pow-pos (prec f))))
+
+  pub digits-lt : rootDigits f m t < 2 ^ prec f
+  digits-lt = go (isqrt c) (2 ^ prec f) (isqrt-lt c (2 * 2 ^ prec f - 1) radicand-lt)
     where
-      one-less : (t : ℕ) → 26 - t % 2 ≡ suc (25 - t % 2)
-      one-less t = omega arith
+      go : (q z : ℕ) → q < 2 * z - 1 → (q + 1) / 2 < z
+      go q z l = omega arith
 
-  pub radicand-ge : 2 ^ 48 ≤ radicand
-  radicand-ge = mul-le-mul lo (pow-mono {i = 25} {j = 26 - t % 2} (omega arith))
-
-  pub radicand-lt : radicand < (2 ^ 25 - 1) * (2 ^ 25 - 1)
-  radicand-lt = lt-of-le-of-lt (mul-le-mul {n₂ = 2 ^ 24 - 1} (omega arith) (pow-mono {i = 26 - t % 2} {j = 26} (omega arith))) (lit< tt)
-
-  pub parts : radicand * 2 ^ half * 2 ^ half ≡ m * 2 ^ t
-  parts = ap (λ (x : ℕ). x * 2 ^ half) (join m (26 - t % 2) half) ∙ join m (26 - t % 2 + half) half ∙ ap (λ (x : ℕ). m * 2 ^ x) (all t L)
+  pub parts : c * 2 ^ half * 2 ^ half ≡ m * 2 ^ t
+  parts =
+      let i = prec f + 2 - (t + prec f) % 2 in
+      ap (λ (x : ℕ). x * 2 ^ half) (join m i half) ∙ join m (i + half) half ∙ ap (λ (x : ℕ). m * 2 ^ x) (all (prec f) t (omega (arith, deep f)))
     where
-      all : (t : ℕ) → 100 ≤ t → 26 - t % 2 + ((t - 23) / 2 - 1) + ((t - 23) / 2 - 1) ≡ t
-      all t l = omega arith
+      all : (p t : ℕ) → p + 3 ≤ t → p + 2 - (t + p) % 2 + ((t + 1 - p) / 2 - 1) + ((t + 1 - p) / 2 - 1) ≡ t
+      all p t l = omega arith
 
-  pub field-is : suc half ≡ (t - 23) / 2
-  field-is = omega arith
+  pub one-more : suc half ≡ dropped f t
+  one-more = omega (arith, deep f)
 
-  pub root-at : rootOf (m * 2 ^ t) ≡ units binary32 false ((isqrt radicand + 1) / 2) ((t - 23) / 2)
-  root-at = ap rootOf (sym parts) ∙ root-units radicand half radicand-even radicand-ge radicand-lt (omega arith) ∙ ap (λ (x : ℕ). units binary32 false ((isqrt radicand + 1) / 2) x) field-is
+  room : prec f + 2 ≤ half
+  room = omega (arith, deep f)
 
-  pub built-at : ofBits binary32 ((t - 23) / 2 * 2 ^ 23 + (isqrt radicand + 1) / 2) ≡ rootOf (m * 2 ^ t)
+  pub root-at : rootAt f (m * 2 ^ t) ≡ units f false (rootDigits f m t) (dropped f t)
+  root-at = ap (rootAt f) (sym parts) ∙ root-units f c half radicand-even radicand-ge radicand-lt room ∙ ap (units f false (rootDigits f m t)) one-more
+
+  pub built-at : ofBits f (dropped f t * hid f + rootDigits f m t) ≡ rootAt f (m * 2 ^ t)
   built-at =
-      let k = (t - 23) / 2 in
-      let d = (isqrt radicand + 1) / 2 in
-      ap (ofBits binary32) (small (isqrt radicand) (isqrt-lt radicand (2 ^ 25 - 1) radicand-lt))
-      ∙ ap (λ (x : ℕ). ofBits binary32 (pattern binary32 false (x * 2 ^ 23 + d))) (sym field-is)
-      ∙ root-built radicand half radicand-even radicand-ge radicand-lt (omega arith)
-      ∙ ap rootOf parts
+      let w = dropped f t * hid f + rootDigits f m t in
+      ap (ofBits f) (small w (last f) (in-reach f (dropped f t) (rootDigits f m t) (omega (arith, deep f)) (le-of-lt digits-lt)))
+      ∙ ap (λ (x : ℕ). ofBits f (pattern f false (x * hid f + rootDigits f m t))) (sym one-more)
+      ∙ root-built f c half radicand-even radicand-ge radicand-lt room
+      ∙ ap (rootAt f) parts
     where
-      small : (q : ℕ) → q < 2 ^ 25 - 1 → (t - 23) / 2 * 2 ^ 23 + (q + 1) / 2 ≡ 0 + min ((t - 23) / 2 * 2 ^ 23 + (q + 1) / 2) 0x7f80_0000
-      small q l = omega arith
+      small : (w y : ℕ) → w ≤ y → w ≡ 0 + min w y
+      small w y l = omega arith
 
-pub root-no-nan : (n : ℕ) → T (not (isNan (rootOf n)))
-unfolding rootOf
-root-no-nan n = round-no-nan binary32 false (isqrt n) (2 ^ 149)
+pub root-no-nan : (f : Format) (n : ℕ) → T (not (isNan (rootAt f n)))
+unfolding rootAt
+root-no-nan f n = round-no-nan f false (isqrt n) (2 ^ low f)

@@ -1,125 +1,119 @@
--- A value of binary32 that is finite and above zero as m * 2 ^ t of 1 / 4 ^ 149, with an m of 24 digits, by the fields of its pattern: what `sqrt` hands to `root`. Assumes nothing.
+-- A value of either format that is finite and above zero as m * 2 ^ t of 1 / 4 ^ low, with an m of prec digits, by the fields of its pattern: what `sqrt` hands to `root`. Assumes nothing.
 use mathlib.Core.Path.{_≡_, refl, sym, ap, subst, _∙_}
 use mathlib.Core.Logic.{inl, inr}
 use mathlib.Core.Bool.{Bool, true, false, not, true≢false, false≢true}
 use Prim.Native.Nat.{ℕ, zero, suc, _+_, _-_, _*_, _/_, _%_, _^_, _≤_, _<_}
-use native.Mathlib.Nat.{lt-irrefl, mul-pos, zero-mul, mul-one, mul-assoc, mul-right-comm, add-comm, mul-div-cancel, mod-eq-of-lt, mul-le-mul-right, lt-of-lt-of-le, lt-of-le-of-lt, le-of-lt, le-add-right, eq-or-lt-of-le}
+use native.Mathlib.Nat.{lt-irrefl, mul-pos, zero-mul, mul-one, mul-assoc, mul-right-comm, add-comm, mul-div-cancel, mod-eq-of-lt, mul-le-mul-right, lt-of-lt-of-le, lt-of-le-of-lt, le-of-lt, le-add-left, le-add-right, eq-or-lt-of-le}
 use native.Mathlib.Omega.{arith}
 use lib.IntN.{ℤ}
 use lib.Dec.{T, leb, le→leb}
 use lib.Arith.{lt→nleb}
-use lib.Pow.{pow-add, pow-pos, shl-lt}
+use lib.Pow.{pow-add, pow-pos, pow-mono, shl-lt}
 use lib.Count.{leadingZeros, leading-top}
-use lib.Ieee.{Float, nan, inf, fin, Format, prec, binary32, up, down, hid, top, ofFields, isNan}
-use lib.Ieee.Fits.{down-pos}
+use lib.Ieee.{Float, nan, inf, fin, Format, prec, emax, low, up, down, hid, ones, top, ofFields, isNan}
+use lib.Ieee.Fits.{two, reach, down-pos}
 use lib.Ieee.Bits.{is-true, is-false}
 use lib.Ieee.Exact.{HasValue}
-use Rattle.float.specs.Root.{rootOf, sqrtOf}
+use Rattle.float.specs.Root.{raised, rootAt, sqrtAt}
 use Rattle.float.proofs.Fields.{at, significand, field-in, finite-at, infinite-at}
-use Rattle.float.proofs.Pattern.{join, pow-lt-back}
+use Rattle.float.proofs.Pattern.{join, four-pow, twice-hid, pow-lt-back}
 
 -- ---- a value's root, by the number of least values that it is
 
 no-size : (m a d : ℕ) → m ≡ 0 → m ≡ a * d → 0 < a → 0 < d → ⊥
 no-size m a d z e A D = lt-irrefl 0 (subst (λ (x : ℕ). 0 < x) (sym e ∙ z) (mul-pos A D))
 
-no-zero : (e : ℤ) (a : ℕ) → 0 * up e * 2 ^ 149 ≡ a * down e → 0 < a → ⊥
-no-zero e a h A = no-size (0 * up e * 2 ^ 149) a (down e) (ap (λ (x : ℕ). x * 2 ^ 149) (zero-mul (up e)) ∙ zero-mul (2 ^ 149)) h A (down-pos e)
+no-zero : (e : ℤ) (a l : ℕ) → 0 * up e * l ≡ a * down e → 0 < a → ⊥
+no-zero e a l h A = no-size (0 * up e * l) a (down e) (ap (λ (x : ℕ). x * l) (zero-mul (up e)) ∙ zero-mul l) h A (down-pos e)
 
--- m * 2 ^ e in units of 1 / 4 ^ 149
-pub scaled : (n d a : ℕ) → 0 < d → n * 2 ^ 149 ≡ a * d → n * 4 ^ 149 / d ≡ a * 2 ^ 149
-scaled n d a D h = ap (λ (x : ℕ). x / d) (sym (mul-assoc n (2 ^ 149) (2 ^ 149)) ∙ ap (λ (x : ℕ). x * 2 ^ 149) h ∙ mul-right-comm a d (2 ^ 149)) ∙ mul-div-cancel (a * 2 ^ 149) D
+-- n / d in units of 1 / 4 ^ l, where it is a whole number of 1 / 2 ^ l: that is exact
+pub scaled : (n d a l : ℕ) → n * 2 ^ l ≡ a * d → n * 4 ^ l ≡ a * 2 ^ l * d
+scaled n d a l h = ap (λ (x : ℕ). n * x) (four-pow l) ∙ sym (mul-assoc n (2 ^ l) (2 ^ l)) ∙ ap (λ (x : ℕ). x * 2 ^ l) h ∙ mul-right-comm a d (2 ^ l)
 
-root-of : (v : Float) (a : ℕ) → HasValue v false a (2 ^ 149) → 0 < a → sqrtOf v ≡ rootOf (a * 2 ^ 149)
-unfolding sqrtOf
-root-of nan a h A = absurd h
-root-of (inf s) a h A = absurd h
-root-of (fin true m e) a h A = absurd (true≢false (h .0))
-root-of (fin false zero e) a h A = absurd (no-zero e a (h .1) A)
-root-of (fin false (suc m) e) a h A = ap rootOf (scaled (suc m * up e) (down e) a (down-pos e) (h .1))
+root-of : (f : Format) (v : Float) (a : ℕ) → HasValue v false a (2 ^ low f) → 0 < a → sqrtAt f v ≡ rootAt f (a * 2 ^ low f)
+unfolding sqrtAt
+root-of f nan a h A = absurd h
+root-of f (inf s) a h A = absurd h
+root-of f (fin true m e) a h A = absurd (true≢false (h .0))
+root-of f (fin false zero e) a h A = absurd (no-zero e a (2 ^ low f) (h .1) A)
+root-of f (fin false (suc m) e) a h A = ap (rootAt f) (ap (λ (x : ℕ). x / down e) (scaled (suc m * up e) (down e) a (low f) (h .1)) ∙ mul-div-cancel (a * 2 ^ low f) (down-pos e))
 
-root-negative : (v : Float) (a : ℕ) → HasValue v true a (2 ^ 149) → 0 < a → sqrtOf v ≡ nan
-unfolding sqrtOf
-root-negative nan a h A = absurd h
-root-negative (inf s) a h A = absurd h
-root-negative (fin false m e) a h A = absurd (false≢true (h .0))
-root-negative (fin true zero e) a h A = absurd (no-zero e a (h .1) A)
-root-negative (fin true (suc m) e) a h A = refl
+root-negative : (f : Format) (v : Float) (a : ℕ) → HasValue v true a (2 ^ low f) → 0 < a → sqrtAt f v ≡ nan
+unfolding sqrtAt
+root-negative f nan a h A = absurd h
+root-negative f (inf s) a h A = absurd h
+root-negative f (fin false m e) a h A = absurd (false≢true (h .0))
+root-negative f (fin true zero e) a h A = absurd (no-zero e a (2 ^ low f) (h .1) A)
+root-negative f (fin true (suc m) e) a h A = refl
 
 -- ---- the two shapes
 
-abbrev pub Shape : Float → ℕ → ℕ → Type 0
-Shape v m t = (2 ^ 23 ≤ m) × (m < 2 ^ 24) × (100 ≤ t) × (t ≤ 402) × ((a : ℕ) × (0 < a) × HasValue v false a (2 ^ 149) × (a * 2 ^ 149 ≡ m * 2 ^ t))
+-- m has prec digits, t is that of a raised pattern below the raised infinity, and v is a least values
+abbrev pub Shape : Format → Float → ℕ → ℕ → Type 0
+Shape f v m t = (hid f ≤ m) × (m < 2 ^ prec f) × (raised f ≤ t) × (t < low f + 2 * emax f) × ((a : ℕ) × (0 < a) × HasValue v false a (2 ^ low f) × (a * 2 ^ low f ≡ m * 2 ^ t))
 
-pub shape-root : (v : Float) (m t : ℕ) → Shape v m t → sqrtOf v ≡ rootOf (m * 2 ^ t)
-shape-root v m t z = root-of v (z .4 .0) (z .4 .2) (z .4 .1) ∙ ap rootOf (z .4 .3)
+pub shape-root : (f : Format) (v : Float) (m t : ℕ) → Shape f v m t → sqrtAt f v ≡ rootAt f (m * 2 ^ t)
+shape-root f v m t z = root-of f v (z .4 .0) (z .4 .2) (z .4 .1) ∙ ap (rootAt f) (z .4 .3)
 
-pub shape-normal : (E t : ℕ) → t < 2 ^ 23 → 1 ≤ E → E < 255 → Shape (ofFields binary32 false E t) (t + 2 ^ 23) (E + 148)
-shape-normal zero t h l g = absurd (lt-irrefl 0 l)
-shape-normal (suc E) t h l g = (
-  omega arith,
-  omega arith,
-  omega arith,
-  omega arith,
+pub shape-normal : (f : Format) (E t : ℕ) → t < hid f → 1 ≤ E → E < ones f → Shape f (ofFields f false E t) (t + hid f) (E + (low f - 1))
+shape-normal f zero t h l g = absurd (lt-irrefl 0 l)
+shape-normal f (suc E) t h l g = (
+  le-add-left (hid f) t,
+  omega (arith, twice-hid f),
+  omega (arith, two f, reach f),
+  omega (arith, two f, reach f),
   (
-    (2 ^ 23 + t) * 2 ^ (suc E - 1),
-    mul-pos (omega arith) (pow-pos (suc E - 1)),
-    finite-at binary32 false (suc E) t g,
-    join (2 ^ 23 + t) (suc E - 1) 149 ∙ ap (λ (x : ℕ). x * 2 ^ (suc E - 1 + 149)) (add-comm (2 ^ 23) t) ∙ ap (λ (x : ℕ). (t + 2 ^ 23) * 2 ^ x) (all E),
+    (hid f + t) * 2 ^ (suc E - 1),
+    mul-pos (lt-of-lt-of-le (pow-pos (prec f - 1)) (le-add-right (hid f) t)) (pow-pos (suc E - 1)),
+    finite-at f false (suc E) t g,
+    join (hid f + t) (suc E - 1) (low f) ∙ ap (λ (x : ℕ). x * 2 ^ (suc E - 1 + low f)) (add-comm (hid f) t) ∙ ap (λ (x : ℕ). (t + hid f) * 2 ^ x) (omega (arith, two f, reach f)),
   ),
 )
-  where
-    all : (E : ℕ) → suc E - 1 + 149 ≡ suc E + 148
-    all E = omega arith
 
--- a subnormal's leading digit is at 2 ^ j
-abbrev pub shift : ℕ → ℕ
-shift t = leadingZeros 32 t - 8
+-- how far a subnormal's leading digit is from its place, where t is a number of w bits
+abbrev pub shift : Format → ℕ → ℕ → ℕ
+shift f w t = leadingZeros w t - (w - prec f)
 
-pub shift-of : (t : ℕ) → 0 < t → t < 2 ^ 23 → (8 ≤ leadingZeros 32 t) × (shift t ≤ 23) × (2 ^ 23 ≤ t * 2 ^ shift t) × (t * 2 ^ shift t < 2 ^ 24)
-shift-of t P h =
-    let z = leading-top 32 t P (wide t h) in
+pub shift-of : (f : Format) (w t : ℕ) → prec f ≤ w → 0 < t → t < hid f → (w - prec f ≤ leadingZeros w t) × (shift f w t < prec f) × (hid f ≤ t * 2 ^ shift f w t) × (t * 2 ^ shift f w t < 2 ^ prec f)
+shift-of f w t W P h =
+    let z = leading-top w t P (lt-of-lt-of-le h (pow-mono (omega arith))) in
     let j = z .0 in
-    let J : j < 23 = pow-lt-back j 23 (lt-of-le-of-lt (z .2) h) in (
-      eight (leadingZeros 32 t) j (z .1) J,
-      few (leadingZeros 32 t) j (z .1),
-      subst (λ (x : ℕ). 2 ^ x ≤ t * 2 ^ shift t) (sum (leadingZeros 32 t) j (z .1) J) (subst (λ (x : ℕ). x ≤ t * 2 ^ shift t) (sym (pow-add 2 j (shift t))) (mul-le-mul-right (2 ^ shift t) (z .2))),
-      subst (λ (x : ℕ). t * 2 ^ shift t < 2 ^ x) (next (leadingZeros 32 t) j (z .1) J) (shl-lt (suc j) (shift t) (z .3)),
+    let n = leadingZeros w t in
+    let s = shift f w t in
+    let J : j < prec f - 1 = pow-lt-back j (prec f - 1) (lt-of-le-of-lt (z .2) h) in
+    let e : n + suc j ≡ w = z .1 in (
+      many (prec f) n j e J,
+      few (prec f) n j e J,
+      subst (λ (x : ℕ). 2 ^ x ≤ t * 2 ^ s) (sum (prec f) n j W e J) (subst (λ (x : ℕ). x ≤ t * 2 ^ s) (sym (pow-add 2 j s)) (mul-le-mul-right (2 ^ s) (z .2))),
+      subst (λ (x : ℕ). t * 2 ^ s < 2 ^ x) (next (prec f) n j W e J) (shl-lt (suc j) s (z .3)),
     )
   where
-    wide : (t : ℕ) → t < 2 ^ 23 → t < 2 ^ 32
-    wide t l = omega arith
+    many : (p n j : ℕ) → n + suc j ≡ w → j < p - 1 → w - p ≤ n
+    many p n j e l = omega arith
 
-    eight : (z j : ℕ) → z + suc j ≡ 32 → j < 23 → 8 ≤ z
-    eight z j e l = omega arith
+    few : (p n j : ℕ) → n + suc j ≡ w → j < p - 1 → n - (w - p) < p
+    few p n j e l = omega arith
 
-    few : (z j : ℕ) → z + suc j ≡ 32 → z - 8 ≤ 23
-    few z j e = omega arith
+    sum : (p n j : ℕ) → p ≤ w → n + suc j ≡ w → j < p - 1 → j + (n - (w - p)) ≡ p - 1
+    sum p n j g e l = omega arith
 
-    sum : (z j : ℕ) → z + suc j ≡ 32 → j < 23 → j + (z - 8) ≡ 23
-    sum z j e l = omega arith
+    next : (p n j : ℕ) → p ≤ w → n + suc j ≡ w → j < p - 1 → suc j + (n - (w - p)) ≡ p
+    next p n j g e l = omega arith
 
-    next : (z j : ℕ) → z + suc j ≡ 32 → j < 23 → suc j + (z - 8) ≡ 24
-    next z j e l = omega arith
-
-pub shape-subnormal : (t : ℕ) → 0 < t → t < 2 ^ 23 → Shape (ofFields binary32 false 0 t) (t * 2 ^ shift t) (149 - shift t)
-shape-subnormal t P h =
-    let z = shift-of t P h in (
+pub shape-subnormal : (f : Format) (w t : ℕ) → prec f ≤ w → 0 < t → t < hid f → Shape f (ofFields f false 0 t) (t * 2 ^ shift f w t) (low f - shift f w t)
+shape-subnormal f w t W P h =
+    let z = shift-of f w t W P h in
+    let s = shift f w t in
+    let l : s < prec f = z .1 in (
       z .2,
       z .3,
-      ge (shift t) (z .1),
-      le (shift t),
-      (t * 2 ^ 0, mul-pos P (pow-pos 0), finite-at binary32 false 0 t (omega arith), ap (λ (x : ℕ). x * 2 ^ 149) (mul-one t) ∙ sym (join t (shift t) (149 - shift t) ∙ ap (λ (x : ℕ). t * 2 ^ x) (all (shift t) (z .1)))),
+      omega (arith, two f, reach f),
+      omega (arith, two f, reach f),
+      (t * 2 ^ 0, mul-pos P (pow-pos 0), finite-at f false 0 t (omega arith), ap (λ (x : ℕ). x * 2 ^ low f) (mul-one t) ∙ sym (join t s (low f - s) ∙ ap (λ (x : ℕ). t * 2 ^ x) (all s (low f) (omega (arith, two f, reach f))))),
     )
   where
-    ge : (s : ℕ) → s ≤ 23 → 100 ≤ 149 - s
-    ge s l = omega arith
-
-    le : (s : ℕ) → 149 - s ≤ 402
-    le s = omega arith
-
-    all : (s : ℕ) → s ≤ 23 → s + (149 - s) ≡ 149
-    all s l = omega arith
+    all : (s l : ℕ) → s ≤ l → s + (l - s) ≡ l
+    all s l h = omega arith
 
 -- ---- the pattern of a value with the sign clear
 
@@ -135,19 +129,17 @@ some-digit : (f : Format) (E t : ℕ) → (E ≡ 0 → 0 < t) → 0 < significan
 some-digit f zero t h = h refl
 some-digit f (suc E) t h = lt-of-lt-of-le (pow-pos (prec f - 1)) (le-add-right (hid f) t)
 
-pub negative-root : (b : ℕ) → 2 ^ 31 < b → b < 2 ^ 32 → T (not (isNan (at binary32 b))) → sqrtOf (at binary32 b) ≡ nan
-unfolding sqrtOf
-negative-root b l h n =
-    let E = b % 2 ^ 31 / 2 ^ 23 in
-    let t = b % 2 ^ 23 in
-    ap sqrtOf (set-at binary32 b (le-of-lt l))
-    ∙ go E t (field-in binary32 b) (digit b l h) (subst (λ (v : Float). T (not (isNan v))) (set-at binary32 b (le-of-lt l)) n)
+-- not -0.0: a field of 0 has a digit
+pub negative-root : (f : Format) (b : ℕ) → top f < b → (b % top f / hid f ≡ 0 → 0 < b % hid f) → T (not (isNan (at f b))) → sqrtAt f (at f b) ≡ nan
+unfolding sqrtAt
+negative-root f b l d n =
+    let E = b % top f / hid f in
+    let t = b % hid f in
+    ap (sqrtAt f) (set-at f b (le-of-lt l))
+    ∙ go E t (field-in f b) d (subst (λ (v : Float). T (not (isNan v))) (set-at f b (le-of-lt l)) n)
   where
-    digit : (b : ℕ) → 2 ^ 31 < b → b < 2 ^ 32 → b % 2 ^ 31 / 2 ^ 23 ≡ 0 → 0 < b % 2 ^ 23
-    digit b l h e = omega arith
-
-    go : (E t : ℕ) → E ≤ 255 → (E ≡ 0 → 0 < t) → T (not (isNan (ofFields binary32 true E t))) → sqrtOf (ofFields binary32 true E t) ≡ nan
+    go : (E t : ℕ) → E ≤ ones f → (E ≡ 0 → 0 < t) → T (not (isNan (ofFields f true E t))) → sqrtAt f (ofFields f true E t) ≡ nan
     go E t k d n = elim (eq-or-lt-of-le k) [
-      | inl e ↦ ap sqrtOf (infinite-at binary32 true E t e n)
-      | inr m ↦ root-negative (ofFields binary32 true E t) (significand binary32 E t * 2 ^ (E - 1)) (finite-at binary32 true E t m) (mul-pos (some-digit binary32 E t d) (pow-pos (E - 1)))
+      | inl e ↦ ap (sqrtAt f) (infinite-at f true E t e n)
+      | inr m ↦ root-negative f (ofFields f true E t) (significand f E t * 2 ^ (E - 1)) (finite-at f true E t m) (mul-pos (some-digit f E t d) (pow-pos (E - 1)))
     ]

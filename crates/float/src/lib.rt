@@ -1,12 +1,12 @@
 // Float tools: what the operators of `f32` and `f64` lack. Each contract is one equation with a
 // definition of `specs/`, and no public function asks anything of its caller.
 ghost use mathlib.Core.Path.{_≡_};
-ghost use Prim.Native.Nat.{_+_, _*_, _/_, _%_, _^_, _≤_, _<_};
-ghost use lib.Ieee.{binary32, ofBits, toBits};
+ghost use Prim.Native.Nat.{suc, _+_, _*_, _/_, _%_, _^_, _≤_, _<_};
+ghost use lib.Ieee.{binary32, prec, hid, ones, ofBits, toBits};
 ghost use lib.Ieee.Nearest.{closest};
 ghost use Rattle.float.specs.Basic.{absOf, maxOf, minOf};
-ghost use Rattle.float.specs.Narrow.{narrowOf};
-ghost use Rattle.float.specs.Root.{isqrt, rootOf, sqrtOf};
+ghost use Rattle.float.specs.Narrow.{narrowOf, spare};
+ghost use Rattle.float.specs.Root.{isqrt, rootOfRaised, sqrtOf};
 
 // The value with the bits b. Every pattern of a NaN gives a NaN.
 pub fn of_bits(b: u32) -> f32
@@ -84,6 +84,7 @@ pub fn narrow(x: f64) -> f32
     let sign = (bits >> 63) << 31;
     let magnitude = bits % 0x8000_0000_0000_0000;
     let exponent = magnitude >> 52;
+    // the same exponent has a field that is 896 more in f64, and f64 has 29 digits more
     let rounded = match exponent {
         // below half of the least subnormal
         0..=872 => 0,
@@ -104,9 +105,9 @@ pub fn narrow(x: f64) -> f32
 // m / 2^s to the nearest whole number, and at a tie to the even one. Half of 2^s is added before
 // the shift, less one unless the quotient is odd, so that a tie carries into an odd quotient only.
 fn shift_nearest(m: u64, s: u64) -> u64
-    requires { ⌜ m < 2 ^ 62 ⌝ }
+    requires { ⌜ m < 2 ^ spare ⌝ }
     requires { ⌜ 1 ≤ s ⌝ }
-    requires { ⌜ s < 62 ⌝ }
+    requires { ⌜ s < spare ⌝ }
     ensures { λ r. ⌜ r ≡ closest m (2 ^ s) ⌝ }
 {
     let half = 1u64 << (s - 1);
@@ -125,7 +126,7 @@ pub fn sqrt(x: f32) -> f32
     let bits: u32 = f32::to_bits(x);
     if 0x8000_0000 <= bits {
         if bits == 0x8000_0000 {
-            return x;
+            return x; // -0.0
         }
         return 0.0 / 0.0;
     }
@@ -147,13 +148,14 @@ pub fn sqrt(x: f32) -> f32
 // a subnormal value has a leading digit too. The digits are shifted by 24 places, or by 23 where the
 // exponent is odd: that leaves an even exponent, and their root has 24 digits again.
 fn root(pattern: u32) -> f32
-    requires { ⌜ pattern < 279 * 2 ^ 23 ⌝ }
-    ensures { λ r. ⌜ r ≡ rootOf ((pattern % 2 ^ 23 + 2 ^ 23) * 2 ^ (pattern / 2 ^ 23 + 124)) ⌝ }
+    requires { ⌜ pattern < (ones binary32 + prec binary32) * hid binary32 ⌝ }
+    ensures { λ r. ⌜ r ≡ rootOfRaised binary32 pattern ⌝ }
 {
     let exponent = pattern >> 23;
     let digits = (pattern % 0x80_0000 + 0x80_0000) as u64;
     let guess = estimate(pattern);
     let d = nearest_root(digits << (24 - exponent % 2), guess);
+    // d counts 2^((exponent + 101) / 2) least values, and its leading digit adds one to the field
     f32::from_bits((((exponent + 101) / 2) << 23) + d as u32)
 }
 
@@ -161,8 +163,8 @@ fn root(pattern: u32) -> f32
 // guess, whatever it is, so only its speed depends on the guess.
 fn nearest_root(n: u64, guess: u64) -> u64
     requires { ⌜ 1 ≤ n ⌝ }
-    requires { ⌜ n < 2 ^ 48 ⌝ }
-    requires { ⌜ guess < 2 ^ 25 ⌝ }
+    requires { ⌜ n < 2 ^ (2 * prec binary32) ⌝ }
+    requires { ⌜ guess < 2 ^ suc (prec binary32) ⌝ }
     ensures { λ r. ⌜ r ≡ (isqrt (4 * n) + 1) / 2 ⌝ }
 {
     let mut d = guess;
@@ -182,7 +184,7 @@ fn nearest_root(n: u64, guess: u64) -> u64
 // exponent, are the last 24 bits of the pattern. One guess in a hundred is off, by one, and no
 // proof rests on that.
 fn estimate(pattern: u32) -> u64
-    ensures { λ r. ⌜ r < 2 ^ 25 ⌝ }
+    ensures { λ r. ⌜ r < 2 ^ suc (prec binary32) ⌝ }
 {
     let part = (pattern >> 19) % 32;
     // how far the number is past the part's start, and what is left to its end

@@ -1,12 +1,12 @@
 -- `float::abs` meets its contract: the pattern of the magnitude is that of the value with the sign's bit off. Assumes nothing.
 use mathlib.Core.Path.{_≡_, refl, sym, ap, subst, _∙_}
 use mathlib.Core.Bool.{Bool, true, false, not}
-use Prim.Native.Nat.{ℕ, zero, suc, _%_, _^_}
+use Prim.Native.Nat.{ℕ, zero, suc, _%_}
 use native.Mathlib.Omega.{arith}
 use borrow.Author.Needs.{needs}
 use lib.IntN.{ℤ}
 use lib.Dec.{T}
-use lib.Ieee.{Float, nan, inf, fin, binary32, ofBits, toBits, isNan, fits}
+use lib.Ieee.{Float, nan, inf, fin, binary32, top, ofBits, toBits, isNan, fits}
 use lib.Ieee.Bits.{ofBits-toBits, toBits-lt}
 use Rattle.float.specs.Basic.{absOf}
 use Rattle.float.proofs.Compare.{nan-of, not-nan}
@@ -20,17 +20,17 @@ unfolding fits
 any-sign s t zero e h = h
 any-sign s t (suc m) e h = h
 
-sign-off : (s : Bool) (m : ℕ) (e : ℤ) → T (fits binary32 (fin s m e)) → toBits binary32 (fin s m e) % 2 ^ 31 ≡ toBits binary32 (fin false m e)
+sign-off : (s : Bool) (m : ℕ) (e : ℤ) → T (fits binary32 (fin s m e)) → toBits binary32 (fin s m e) % top binary32 ≡ toBits binary32 (fin false m e)
 unfolding toBits
 sign-off true m e h = omega (arith, toBits-lt binary32 (fin true m e) h)
 sign-off false m e h = omega (arith, toBits-lt binary32 (fin true m e) (any-sign false true m e h))
 
-infinite : (s : Bool) → ofBits binary32 (toBits binary32 (inf s) % 2 ^ 31) ≡ inf false
+infinite : (s : Bool) → ofBits binary32 (toBits binary32 (inf s) % top binary32) ≡ inf false
 unfolding toBits ofBits
 infinite true = refl
 infinite false = refl
 
-magnitude : (x : Float) → T (fits binary32 x) → T (not (isNan x)) → ofBits binary32 (toBits binary32 x % 2 ^ 31) ≡ absOf x
+magnitude : (x : Float) → T (fits binary32 x) → T (not (isNan x)) → ofBits binary32 (toBits binary32 x % top binary32) ≡ absOf x
 unfolding absOf isNan
 magnitude nan h n = absurd n
 magnitude (inf s) h n = infinite s

@@ -1,18 +1,31 @@
--- `float::estimate` meets its contract: nothing of it wraps, and it is below 2 ^ 25. Assumes nothing.
-use Prim.Native.Nat.{ℕ, _-_, _*_, _/_, _%_, _^_, _<_}
+-- `float::estimate` meets its contract: nothing of it wraps, and it has at most one digit more than a root. Assumes nothing.
+use Prim.Native.Nat.{ℕ, _+_, _-_, _*_, _/_, _%_, _^_, _<_}
 use native.Mathlib.Omega.{arith}
 use borrow.Author.Needs.{needs}
 use Rattle.float.proofs.Pattern.{product-lt}
 use Rattle.float.proofs.estimate.Statement.{statement}
 use Rattle.float.proofs.estimate.Tie as tie
 
+-- how many bits past and left have, each half of a table's entry, and those that are dropped from past * left and from past * left * left
+abbrev part : ℕ
+part = 19
+
+abbrev entry : ℕ
+entry = 32
+
+abbrev off-two : ℕ
+off-two = 16
+
+abbrev off-three : ℕ
+off-three = 36
+
 -- the numbers of the code
 module _ (c : tie.After-bend) where
   abbrev past : ℕ
-  past = c .before .before .args .pattern % 2 ^ 19
+  past = c .before .before .args .pattern % 2 ^ part
 
   abbrev left : ℕ
-  left = 2 ^ 19 - 1 - past
+  left = 2 ^ part - 1 - past
 
   abbrev line : ℕ
   line = c .before .chord .result
@@ -20,20 +33,20 @@ module _ (c : tie.After-bend) where
   abbrev rise : ℕ
   rise = c .bend .result
 
-  two-lt : past * left < 2 ^ 38
-  two-lt = product-lt 19 19 (omega arith) (omega arith)
+  two-lt : past * left < 2 ^ (part + part)
+  two-lt = product-lt part part (omega arith) (omega arith)
 
-  three-lt : past * left * left < 2 ^ 57
-  three-lt = product-lt 38 19 two-lt (omega arith)
+  three-lt : past * left * left < 2 ^ (part + part + part)
+  three-lt = product-lt (part + part) part two-lt (omega arith)
 
-  slope-lt : line % 2 ^ 32 * past < 2 ^ 51
-  slope-lt = product-lt 32 19 (omega arith) (omega arith)
+  slope-lt : line % 2 ^ entry * past < 2 ^ (entry + part)
+  slope-lt = product-lt entry part (omega arith) (omega arith)
 
-  square-lt : rise / 2 ^ 32 * (past * left / 2 ^ 16) < 2 ^ 54
-  square-lt = product-lt 32 22 (omega arith) (omega (arith, two-lt))
+  square-lt : rise / 2 ^ entry * (past * left / 2 ^ off-two) < 2 ^ (entry + (part + part - off-two))
+  square-lt = product-lt entry (part + part - off-two) (omega arith) (omega (arith, two-lt))
 
-  cube-lt : rise % 2 ^ 32 * (past * left * left / 2 ^ 36) < 2 ^ 53
-  cube-lt = product-lt 32 21 (omega arith) (omega (arith, three-lt))
+  cube-lt : rise % 2 ^ entry * (past * left * left / 2 ^ off-three) < 2 ^ (entry + (part + part + part - off-three))
+  cube-lt = product-lt entry (part + part + part - off-three) (omega arith) (omega (arith, three-lt))
 
 mul-square : tie.Need-mul-square
 mul-square c = omega (arith, two-lt c)

@@ -2,34 +2,34 @@
 use mathlib.Core.Path.{_≡_, sym, ap, _∙_, subst}
 use mathlib.Core.Logic.{_⊎_, inl, inr, ⊎-elim}
 use mathlib.Core.Bool.{not}
-use Prim.Native.Nat.{ℕ, _+_, _-_, _*_, _/_, _%_, _^_, _≤_, _<_}
+use Prim.Native.Nat.{ℕ, suc, _+_, _-_, _*_, _/_, _%_, _^_, _<_}
 use native.Mathlib.Nat.{eq-or-lt-of-le}
 use native.Mathlib.Omega.{arith}
 use borrow.Author.Needs.{needs}
 use lib.Dec.{T, leb}
-use lib.Ieee.{Float, binary32, binary64, isNan, fits, ofBits, toBits}
+use lib.Ieee.{Float, binary32, binary64, hid, ones, top, isNan, fits, ofBits, toBits}
 use lib.Ieee.Bits.{toBits-lt}
 use lib.Ieee.Nearest.{closest}
-use Rattle.float.specs.Narrow.{narrowOf}
+use Rattle.float.specs.Narrow.{narrowAt, narrowOf}
 use Rattle.float.proofs.Compare.{quotient-nan, nan-of, not-nan}
 use Rattle.float.proofs.Fields.{at, read, digits-in, field-in, sign-is}
-use Rattle.float.proofs.Narrowing.{Sized, arm-zero, arm-subnormal, arm-normal, arm-infinite, arm-last, narrow-no-nan}
-use Rattle.float.proofs.Pattern.{may-read}
+use Rattle.float.proofs.Narrowing.{Narrowed, fewer, rebias, to-zero, to-subnormal, to-normal, to-infinite, to-last, narrow-no-nan}
+use Rattle.float.proofs.Pattern.{last, may-read}
 use Rattle.float.proofs.narrow.Statement.{statement}
 use Rattle.float.proofs.narrow.Tie as tie
 
 -- ---- the exponent's field and the digits of the pattern b
 
 abbrev E : ℕ → ℕ
-E b = b % 2 ^ 63 / 2 ^ 52
+E b = b % top binary64 / hid binary64
 
 abbrev t : ℕ → ℕ
-t b = b % 2 ^ 52
+t b = b % hid binary64
 
-digits-is : (b : ℕ) → b % 2 ^ 63 % 2 ^ 52 ≡ t b
+digits-is : (b : ℕ) → b % top binary64 % hid binary64 ≡ t b
 digits-is b = omega arith
 
-whole-is : (b : ℕ) → 897 ≤ E b → b % 2 ^ 63 - 0x3800_0000_0000_0000 ≡ (E b - 897) * 2 ^ 52 + (t b + 2 ^ 52)
+whole-is : (b : ℕ) → rebias < E b → b % top binary64 - rebias * hid binary64 ≡ (E b - suc rebias) * hid binary64 + (t b + hid binary64)
 whole-is b l = omega arith
 
 -- ---- what is known of x past the first test
@@ -50,50 +50,56 @@ module _ (c : tie.Else1) where
   is-x : at binary64 b ≡ x
   is-x = read binary64 x held
 
-  -- n is the pattern, without its sign, of what `narrowOf` gives
-  abbrev SizedHere : ℕ → Type 0
-  SizedHere n = Sized (leb (2 ^ 63) b) (E b) (t b) n
+  digits : t b < hid binary64
+  digits = digits-in binary64 b
 
-  in-last : SizedHere 0x7f80_0000 ⊎ (E b < 2047)
+  -- n is the pattern, without its sign, of what `narrowOf` gives
+  abbrev Here : ℕ → Type 0
+  Here n = Narrowed (leb (top binary64) b) (E b) (t b) digits n
+
+  in-last : Here (last binary32) ⊎ (E b < ones binary64)
   in-last = go (eq-or-lt-of-le (field-in binary64 b))
     where
-      go : (E b ≡ 2047) ⊎ (E b < 2047) → SizedHere 0x7f80_0000 ⊎ (E b < 2047)
-      go (inl e) = inl (arm-last (leb (2 ^ 63) b) (E b) (t b) e (subst (λ (v : Float). T (not (isNan v))) (sym is-x) no-nan))
+      go : (E b ≡ ones binary64) ⊎ (E b < ones binary64) → Here (last binary32) ⊎ (E b < ones binary64)
+      go (inl e) = inl (to-last (leb (top binary64) b) (E b) (t b) digits e (subst (λ (v : Float). T (not (isNan v))) (sym is-x) no-nan))
       go (inr l) = inr l
 
 -- what the arms leave, by the arm that was taken
-sized : (c : tie.Joined2) → SizedHere (c .before) (c .if2 .rounded)
+sized : (c : tie.Joined2) → Here (c .before) (c .if2 .rounded)
 sized c =
     let n = c .before in
-    let s = leb (2 ^ 63) (b n) in
-    let T52 : t (b n) < 2 ^ 52 = digits-in binary64 (b n) in
-    ⊎-elim (λ w. subst (λ (z : ℕ). SizedHere n z) (sym (w .1)) (arm-zero s (E (b n)) (t (b n)) T52 (w .0 .taken)))
+    let s = leb (top binary64) (b n) in
+    let e = E (b n) in
+    let d = t (b n) in
+    let h = digits n in
+    ⊎-elim (λ w. subst (λ (z : ℕ). Here n z) (sym (w .1)) (to-zero s e d h (omega (arith, w .0 .taken))))
     (⊎-elim
     (λ w.
-    subst (λ (z : ℕ). SizedHere n z) (sym (w .3 ∙ w .2 .ensures ∙ ap (λ (z : ℕ). closest (z + 2 ^ 52) (2 ^ (926 - E (b n)))) (digits-is (b n))))
-    (arm-subnormal s (E (b n)) (t (b n)) T52 (w .0 .left) (w .1 .taken)))
+    subst (λ (z : ℕ). Here n z) (sym (w .3 ∙ w .2 .ensures ∙ ap (λ (z : ℕ). closest (z + hid binary64) (2 ^ (suc (rebias + fewer) - e))) (digits-is (b n))))
+    (to-subnormal s e d h (omega (arith, w .0 .left)) (omega (arith, w .1 .taken))))
     (⊎-elim
     (λ w.
-    subst (λ (z : ℕ). SizedHere n z) (sym (w .4 ∙ w .3 .ensures))
-    (arm-normal s (E (b n)) (t (b n)) T52 (b n % 2 ^ 63 - 0x3800_0000_0000_0000) (whole-is (b n) (w .1 .left)) (w .1 .left) (omega (arith, w .2 .taken))))
-    (λ w. subst (λ (z : ℕ). SizedHere n z) (sym (w .3)) (⊎-elim (λ h. h) (λ l. arm-infinite s (E (b n)) (t (b n)) T52 (omega (arith, w .2 .left)) l) (in-last n)))))
+    subst (λ (z : ℕ). Here n z) (sym (w .4 ∙ w .3 .ensures))
+    (to-normal s e d h (b n % top binary64 - rebias * hid binary64) (whole-is (b n) (w .1 .left)) (w .1 .left) (omega (arith, w .2 .taken))))
+    (λ w. subst (λ (z : ℕ). Here n z) (sym (w .3)) (⊎-elim (λ k. k) (λ l. to-infinite s e d h (omega (arith, w .2 .left)) l) (in-last n)))))
     (c .if2 .came)
 
 -- the sign's bit, and then the pattern
 abbrev signed : tie.Joined2 → ℕ
-signed c = b (c .before) / 2 ^ 63 * 2 ^ 31 % 2 ^ 64 + c .if2 .rounded
+signed c = b (c .before) / top binary64 * top binary32 % 2 ^ 64 + c .if2 .rounded
 
 narrowed : (c : tie.Joined2) → ofBits binary32 (signed c) ≡ narrowOf (x (c .before))
+unfolding narrowOf
 narrowed c =
     let n = c .before in
-    let l : b n < 2 ^ 64 = toBits-lt binary64 (x n) (held n) in
-    ap (λ (z : ℕ). ofBits binary32 (z + c .if2 .rounded)) (small (b n) l ∙ sign-is binary64 (b n) (2 ^ 31) l) ∙ sized c .1 ∙ ap narrowOf (is-x n)
+    let l : b n < 2 * top binary64 = toBits-lt binary64 (x n) (held n) in
+    ap (λ (z : ℕ). ofBits binary32 (z + c .if2 .rounded)) (small (b n) l ∙ sign-is binary64 (b n) (top binary32) l) ∙ sized c .1 ∙ ap (narrowAt binary32) (is-x n)
   where
-    small : (b : ℕ) → b < 2 ^ 64 → b / 2 ^ 63 * 2 ^ 31 % 2 ^ 64 ≡ b / 2 ^ 63 * 2 ^ 31
+    small : (b : ℕ) → b < 2 * top binary64 → b / top binary64 * top binary32 % 2 ^ 64 ≡ b / top binary64 * top binary32
     small b l = omega arith
 
 returns : tie.Need-returns
-unfolding narrowOf
+unfolding narrowOf narrowAt
 returns c = quotient-nan ∙ sym (ap narrowOf (nan-of (c .before .args .x) (c .if1 .taken)))
 
 float-to-bits-bits : tie.Need-float-to-bits-bits
@@ -106,9 +112,10 @@ cast-result : tie.Need-cast-result
 cast-result c = omega (arith, sized (c .before) .0, toBits-lt binary64 (x (c .before .before)) (held (c .before .before)))
 
 float-from-bits-result : tie.Need-float-from-bits-result
+unfolding narrowOf
 float-from-bits-result c =
     let n = c .before .before in
-    may-read binary32 (signed (c .before)) (narrowOf (x n)) (narrowed (c .before)) (narrow-no-nan (x n) (no-nan n))
+    may-read binary32 (signed (c .before)) (narrowOf (x n)) (narrowed (c .before)) (narrow-no-nan binary32 (x n) (no-nan n))
 
 returns-2 : tie.Need-returns-2
 returns-2 c = narrowed (c .before)

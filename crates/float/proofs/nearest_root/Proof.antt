@@ -4,13 +4,18 @@ use mathlib.Core.Path.{_≡_}
 use Prim.Native.Nat.{ℕ, zero, suc, _+_, _-_, _*_, _^_, _≤_, _<_}
 use native.Mathlib.Nat.{lt-of-not-le, not-le-of-lt, zero-lt-suc, mul-le-mul}
 use native.Mathlib.Omega.{arith}
+use lib.Ieee.{binary32, prec}
 use Rattle.float.proofs.Isqrt.{square-suc, nearest-only}
 use Rattle.float.proofs.Pattern.{product-lt}
 use Rattle.float.proofs.nearest_root.Statement.{statement}
 use Rattle.float.proofs.nearest_root.Tie as tie
 
+-- the bits of a guess: one more than a root has, whose square fits 64 bits
+abbrev bits : ℕ
+bits = suc (prec binary32)
+
 abbrev Inv-loop : tie.InvT-loop
-Inv-loop n guess d₀ d = d < 2 ^ 25
+Inv-loop n guess d₀ d = d < 2 ^ bits
 
 abbrev μ-loop : tie.MeasureT-loop
 μ-loop n guess d₀ d = d * d - n + (n - d * d)
@@ -19,8 +24,8 @@ some : (n d : ℕ) → 1 ≤ n → n + d ≤ d * d → 1 ≤ d
 some n zero h l = omega arith
 some n (suc d) h l = zero-lt-suc d
 
-small : (n d : ℕ) → n < 2 ^ 48 → d * d + d < n → d < 2 ^ 24
-small n d h l = lt-of-not-le (λ (g : 2 ^ 24 ≤ d). not-le-of-lt (omega arith) (mul-le-mul g g))
+small : (p n d : ℕ) → n < 2 ^ p * 2 ^ p → d * d + d < n → d < 2 ^ p
+small p n d h l = lt-of-not-le (λ (g : 2 ^ p ≤ d). not-le-of-lt (omega arith) (mul-le-mul g g))
 
 lowered : (n d : ℕ) → 1 ≤ n → n + d ≤ d * d → (d - 1) * (d - 1) - n + (n - (d - 1) * (d - 1)) < d * d - n + (n - d * d)
 lowered n zero h l = omega arith
@@ -33,7 +38,7 @@ loop-holds : tie.Need-loop-holds Inv-loop μ-loop
 loop-holds c = c .pre .1 .1
 
 mul-square : tie.Need-mul-square Inv-loop μ-loop
-mul-square c = omega (arith, product-lt 25 25 (c .loop .inv) (c .loop .inv))
+mul-square c = omega (arith, product-lt bits bits (c .loop .inv) (c .loop .inv))
 
 add-if1 : tie.Need-add-if1 Inv-loop μ-loop
 add-if1 c = omega arith
@@ -48,7 +53,7 @@ loop-again : tie.Need-loop-again Inv-loop μ-loop
 loop-again c = omega arith
 
 add-if2 : tie.Need-add-if2 Inv-loop μ-loop
-add-if2 c = omega (arith, product-lt 25 25 (c .before .loop .inv) (c .before .loop .inv))
+add-if2 c = omega (arith, product-lt bits bits (c .before .loop .inv) (c .before .loop .inv))
 
 add-d : tie.Need-add-d Inv-loop μ-loop
 add-d c = omega arith
@@ -57,7 +62,7 @@ loop-less-2 : tie.Need-loop-less-2 Inv-loop μ-loop
 loop-less-2 c = raised (c .before .before .before .args .n) (c .before .before .loop .d) (omega arith)
 
 loop-again-2 : tie.Need-loop-again-2 Inv-loop μ-loop
-loop-again-2 c = omega (arith, small (c .before .before .before .args .n) (c .before .before .loop .d) (c .before .before .before .pre .1 .0) (omega arith))
+loop-again-2 c = omega (arith, small (prec binary32) (c .before .before .before .args .n) (c .before .before .loop .d) (c .before .before .before .pre .1 .0) (omega arith))
 
 returns : tie.Need-returns Inv-loop μ-loop
 returns c = nearest-only (c .before .before .before .args .n) (c .before .before .loop .d) (omega arith)

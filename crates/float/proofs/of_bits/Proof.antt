@@ -1,13 +1,14 @@
 -- `float::of_bits` meets its contract: without the sign's bit, the patterns above the infinity's are the NaNs'. Assumes nothing.
 use mathlib.Core.Path.{_≡_, refl, sym, _∙_, subst}
 use mathlib.Core.Bool.{Bool, true, not, false≢true}
-use Prim.Native.Nat.{ℕ, _%_, _^_, _<_}
+use Prim.Native.Nat.{ℕ, _%_, _<_}
 use borrow.Author.Needs.{needs}
 use borrow.Author.Tests.{lt-ltb, le-ltb}
 use lib.Dec.{T}
-use lib.Ieee.{Float, nan, inf, fin, binary32, isNan, ofBits}
+use lib.Ieee.{Float, nan, inf, fin, binary32, top, isNan, ofBits}
 use lib.Ieee.Bits.{nanBits-is, nanBits-above}
 use Rattle.float.proofs.Compare.{quotient-nan}
+use Rattle.float.proofs.Pattern.{last}
 use Rattle.float.proofs.of_bits.Statement.{statement}
 use Rattle.float.proofs.of_bits.Tie as tie
 
@@ -17,8 +18,8 @@ nan-by nan h = refl
 nan-by (inf s) h = absurd (false≢true h)
 nan-by (fin s m e) h = absurd (false≢true h)
 
-nan-above : (b : ℕ) → 0x7f80_0000 < b % 2 ^ 31 → nan ≡ ofBits binary32 b
-nan-above b h = nan-by (ofBits binary32 b) (sym (nanBits-is binary32 b) ∙ nanBits-above binary32 b ∙ lt-ltb 0x7f80_0000 (b % 2 ^ 31) h)
+nan-above : (b : ℕ) → last binary32 < b % top binary32 → nan ≡ ofBits binary32 b
+nan-above b h = nan-by (ofBits binary32 b) (sym (nanBits-is binary32 b) ∙ nanBits-above binary32 b ∙ lt-ltb (last binary32) (b % top binary32) h)
 
 returns : tie.Need-returns
 returns c = quotient-nan ∙ nan-above (c .before .args .b) (c .if1 .taken)

@@ -6,79 +6,82 @@ use native.Mathlib.Omega.{arith}
 use borrow.Author.Needs.{needs}
 use lib.Dec.{lit≤}
 use lib.Pow.{pow-pos, pow-mono, shl-lt}
-use lib.Ieee.{binary32, ofBits}
-use Rattle.float.specs.Root.{isqrt, rootOf}
-use Rattle.float.proofs.Isqrt.{isqrt-lt}
+use lib.Ieee.{binary32, prec, hid, ones, ofBits}
+use Rattle.float.specs.Root.{isqrt, raised, rootAt}
 use Rattle.float.proofs.Pattern.{may-read}
-use Rattle.float.proofs.Rooting.{radicand, radicand-four, radicand-lt, built-at, root-no-nan}
+use Rattle.float.proofs.Rooting.{dropped, rootDigits, radicand-four, digits-lt, built-at, root-no-nan}
 use Rattle.float.proofs.root.Statement.{statement}
 use Rattle.float.proofs.root.Tie as tie
 
--- the digits m, the exponent t, and n, whose root is searched
-module _ (c : tie.Start) where
-  abbrev p : ℕ
-  p = c .args .pattern
+-- ---- the digits m, the exponent t, and n, whose root is searched, by the pattern p
 
-  abbrev m : ℕ
-  m = p % 2 ^ 23 + 2 ^ 23
+abbrev m : ℕ → ℕ
+m p = p % hid binary32 + hid binary32
 
-  abbrev t : ℕ
-  t = p / 2 ^ 23 + 124
+abbrev t : ℕ → ℕ
+t p = p / hid binary32 + raised binary32
 
-  abbrev n : ℕ
-  n = m * 2 ^ (24 - p / 2 ^ 23 % 2)
+abbrev n : ℕ → ℕ
+n p = m p * 2 ^ (prec binary32 - p / hid binary32 % 2)
 
-  n-lt : n < 2 ^ 48
-  n-lt = lt-of-lt-of-le (shl-lt 24 (24 - p / 2 ^ 23 % 2) (omega arith)) (pow-mono {i = 24 + (24 - p / 2 ^ 23 % 2)} {j = 48} (omega arith))
+n-lt : (p : ℕ) → n p < 2 ^ (2 * prec binary32)
+n-lt p = let i = prec binary32 - p / hid binary32 % 2 in lt-of-lt-of-le (shl-lt (prec binary32) i (omega arith)) (pow-mono {i = prec binary32 + i} {j = 2 * prec binary32} (omega arith))
 
-  n-pos : 1 ≤ n
-  n-pos = mul-pos (omega arith) (pow-pos (24 - p / 2 ^ 23 % 2))
+n-pos : (p : ℕ) → 1 ≤ n p
+n-pos p = mul-pos (omega arith) (pow-pos (prec binary32 - p / hid binary32 % 2))
 
-  unwrapped : n % 2 ^ 64 ≡ n
-  unwrapped = mod-eq-of-lt (lt-of-lt-of-le n-lt (lit≤ tt))
+-- no digit is shifted out of 64 bits
+unwrapped : (p : ℕ) → n p % 2 ^ 64 ≡ n p
+unwrapped p = mod-eq-of-lt (lt-of-lt-of-le (n-lt p) (lit≤ tt))
 
-  abbrev c4 : ℕ
-  c4 = radicand m t (omega arith) (omega arith) (omega arith) (omega arith)
+-- the root of 4 * n, rounded, is the root's digits
+searched : (p : ℕ) → (isqrt (4 * (n p % 2 ^ 64)) + 1) / 2 ≡ rootDigits binary32 (m p) (t p)
+searched p = ap (λ (x : ℕ). (isqrt x + 1) / 2) (ap (λ (x : ℕ). 4 * x) (unwrapped p) ∙ ap (λ (x : ℕ). 4 * (m p * 2 ^ (prec binary32 - x))) (parity p) ∙ radicand-four binary32 (m p) (t p))
+  where
+    parity : (p : ℕ) → p / hid binary32 % 2 ≡ (t p + prec binary32) % 2
+    parity p = omega arith
 
-  four : 4 * n ≡ c4
-  four = ap (λ (x : ℕ). 4 * (m * 2 ^ (24 - x))) (parity p) ∙ radicand-four m t (omega arith) (omega arith) (omega arith) (omega arith)
-    where
-      parity : (p : ℕ) → p / 2 ^ 23 % 2 ≡ (p / 2 ^ 23 + 124) % 2
-      parity p = omega arith
+module _ (p : ℕ) (P : p < (ones binary32 + prec binary32) * hid binary32) where
+  few : rootDigits binary32 (m p) (t p) < 2 ^ prec binary32
+  few = digits-lt binary32 (m p) (t p) (omega arith) (omega arith) (omega arith) (omega arith)
+
+  put : ofBits binary32 (dropped binary32 (t p) * hid binary32 + rootDigits binary32 (m p) (t p)) ≡ rootAt binary32 (m p * 2 ^ t p)
+  put = built-at binary32 (m p) (t p) (omega arith) (omega arith) (omega arith) (omega arith)
 
 nearest-root-requires : tie.Need-nearest-root-requires
-nearest-root-requires c κs = let s = c .before in omega (arith, n-lt s, n-pos s, unwrapped s)
+nearest-root-requires c κs = let p = c .before .args .pattern in omega (arith, n-lt p, n-pos p, unwrapped p)
 
--- the digits of the root
-result : (c : tie.After-nearest-root) → c .nearest-root .result ≡ (isqrt (c4 (c .before .before)) + 1) / 2
-result c = let s = c .before .before in c .nearest-root .ensures ∙ ap (λ (x : ℕ). (isqrt x + 1) / 2) (ap (λ (x : ℕ). 4 * x) (unwrapped s) ∙ four s)
+-- what is known after the search
+module _ (c : tie.After-nearest-root) where
+  abbrev p : ℕ
+  p = c .before .before .args .pattern
 
-result-lt : (c : tie.After-nearest-root) → c .nearest-root .result < 2 ^ 24
-result-lt c =
-    let s = c .before .before in
-    halved (c .nearest-root .result) (isqrt (c4 s)) (result c) (isqrt-lt (c4 s) (2 ^ 25 - 1) (radicand-lt (m s) (t s) (omega arith) (omega arith) (omega arith) (omega arith)))
-  where
-    halved : (d q : ℕ) → d ≡ (q + 1) / 2 → q < 2 ^ 25 - 1 → d < 2 ^ 24
-    halved d q e l = omega arith
+  abbrev d : ℕ
+  d = c .nearest-root .result
+
+  d-is : d ≡ rootDigits binary32 (m p) (t p)
+  d-is = c .nearest-root .ensures ∙ searched p
+
+  d-lt : d < 2 ^ prec binary32
+  d-lt = omega (arith, d-is, few p (c .before .before .pre))
 
 cast-result : tie.Need-cast-result
-cast-result c = omega (arith, result-lt c)
+cast-result c = omega (arith, d-lt c)
 
 add-result-2 : tie.Need-add-result-2
-add-result-2 c = omega (arith, result-lt c)
+add-result-2 c = omega (arith, d-lt c)
 
 returns : tie.Need-returns
 returns c =
-    let s = c .before .before in
-    ap (λ (x : ℕ). ofBits binary32 (x + c .nearest-root .result)) (field (p s) (omega arith))
-    ∙ ap (λ (x : ℕ). ofBits binary32 ((t s - 23) / 2 * 2 ^ 23 + x)) (result c)
-    ∙ built-at (m s) (t s) (omega arith) (omega arith) (omega arith) (omega arith)
+    ap (λ (x : ℕ). ofBits binary32 (x + d c)) (field (p c) (c .before .before .pre))
+    ∙ ap (λ (x : ℕ). ofBits binary32 (dropped binary32 (t (p c)) * hid binary32 + x)) (d-is c)
+    ∙ put (p c) (c .before .before .pre)
   where
-    field : (p : ℕ) → p < 279 * 2 ^ 23 → (p / 2 ^ 23 + 101) / 2 * 2 ^ 23 % 2 ^ 32 ≡ (p / 2 ^ 23 + 124 - 23) / 2 * 2 ^ 23
+    field : (p : ℕ) → p < (ones binary32 + prec binary32) * hid binary32 → (p / hid binary32 + (raised binary32 + 1 - prec binary32)) / 2 * hid binary32 % 2 ^ 32 ≡ dropped binary32 (t p) * hid binary32
     field p l = omega arith
 
 float-from-bits-result : tie.Need-float-from-bits-result
-float-from-bits-result c = let s = c .before .before in may-read binary32 _ (rootOf (m s * 2 ^ t s)) (returns c) (root-no-nan (m s * 2 ^ t s))
+float-from-bits-result c = may-read binary32 _ (rootAt binary32 (m (p c) * 2 ^ t (p c))) (returns c) (root-no-nan binary32 (m (p c) * 2 ^ t (p c)))
 
 pub root-spec : {M : Type 1} → statement M
 root-spec =

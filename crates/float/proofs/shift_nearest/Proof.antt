@@ -7,6 +7,7 @@ use borrow.Author.Needs.{needs}
 use lib.Dec.{lit<}
 use lib.Pow.{pow-pos, pow-mono, shl-exact}
 use lib.Ieee.Nearest.{closest}
+use Rattle.float.specs.Narrow.{spare}
 use Rattle.float.proofs.Closest.{closest-added}
 use Rattle.float.proofs.Pattern.{twice}
 use Rattle.float.proofs.shift_nearest.Statement.{statement}
@@ -16,14 +17,14 @@ use Rattle.float.proofs.shift_nearest.Tie as tie
 abbrev half : ℕ → ℕ
 half s = 1 * 2 ^ (s - 1) % 2 ^ 64
 
-half-is : (s : ℕ) → s < 62 → half s ≡ 2 ^ (s - 1)
+half-is : (s : ℕ) → s < spare → half s ≡ 2 ^ (s - 1)
 half-is s h = shl-exact {a = 1} 1 (s - 1) 64 (lit< tt) (omega arith) ∙ one-mul (2 ^ (s - 1))
 
-half-pos : (s : ℕ) → s < 62 → 1 ≤ half s
+half-pos : (s : ℕ) → s < spare → 1 ≤ half s
 half-pos s h = subst (λ (x : ℕ). 1 ≤ x) (sym (half-is s h)) (pow-pos (s - 1))
 
-half-le : (s : ℕ) → s < 62 → half s ≤ 2 ^ 61
-half-le s h = subst (λ (x : ℕ). x ≤ 2 ^ 61) (sym (half-is s h)) (pow-mono {i = s - 1} {j = 61} (omega arith))
+half-le : (s : ℕ) → s < spare → half s ≤ 2 ^ (spare - 1)
+half-le s h = subst (λ (x : ℕ). x ≤ 2 ^ (spare - 1)) (sym (half-is s h)) (pow-mono {i = s - 1} {j = spare - 1} (omega arith))
 
 sub-result : tie.Need-sub-result
 sub-result c = omega (arith, half-pos (c .args .s) (c .pre .1 .1))

@@ -7,14 +7,22 @@ use native.Mathlib.Omega.{arith}
 use borrow.Author.Needs.{needs}
 use lib.Dec.{T, lit≤}
 use lib.Count.{leadingZeros}
-use lib.Ieee.{Float, nan, inf, binary32, isNan, fits, toBits, ofFields}
+use lib.Ieee.{Float, nan, inf, binary32, prec, low, hid, ones, top, isNan, fits, toBits, ofFields}
 use lib.Ieee.Bits.{toBits-lt}
-use Rattle.float.specs.Root.{rootOf, sqrtOf}
+use Rattle.float.specs.Root.{raised, rootAt, rootOfRaised, sqrtAt, sqrtOf}
 use Rattle.float.proofs.Compare.{nan-of, not-nan, quotient-nan}
 use Rattle.float.proofs.Fields.{at, read, infinite-at}
 use Rattle.float.proofs.Shapes.{Shape, shape-root, shape-normal, shape-subnormal, shift, shift-of, clear-at, negative-root}
 use Rattle.float.proofs.sqrt.Statement.{statement}
 use Rattle.float.proofs.sqrt.Tie as tie
+
+-- the width of the word that holds a pattern
+abbrev width : ℕ
+width = 32
+
+-- how many places a subnormal's digits are shifted
+abbrev places : ℕ → ℕ
+places n = shift binary32 width n
 
 -- ---- what is known of x past the first test
 
@@ -39,35 +47,36 @@ fixed : (v x : Float) → v ≡ sqrtOf v → v ≡ x → x ≡ sqrtOf x
 fixed v x h e = subst (λ (y : Float). y ≡ sqrtOf y) e h
 
 -- with the sign's bit clear
-clear : (c : tie.Else2) → ofFields binary32 false (b (c .before) / 2 ^ 23) (b (c .before) % 2 ^ 23) ≡ x (c .before)
+clear : (c : tie.Else2) → ofFields binary32 false (b (c .before) / hid binary32) (b (c .before) % hid binary32) ≡ x (c .before)
 clear c = sym (clear-at binary32 (b (c .before)) (c .if2 .left)) ∙ is-x (c .before)
 
 -- what `root` returns for the pattern p
-rooted : (p m t : ℕ) (v r : Float) → Shape v m t → p % 2 ^ 23 + 2 ^ 23 ≡ m → p / 2 ^ 23 + 124 ≡ t → r ≡ rootOf ((p % 2 ^ 23 + 2 ^ 23) * 2 ^ (p / 2 ^ 23 + 124)) → r ≡ sqrtOf v
-rooted p m t v r z d e h = h ∙ ap (λ (k : ℕ). rootOf (k * 2 ^ (p / 2 ^ 23 + 124))) d ∙ ap (λ (k : ℕ). rootOf (m * 2 ^ k)) e ∙ sym (shape-root v m t z)
+rooted : (p m t : ℕ) (v r : Float) → Shape binary32 v m t → p % hid binary32 + hid binary32 ≡ m → p / hid binary32 + raised binary32 ≡ t → r ≡ rootOfRaised binary32 p → r ≡ sqrtOf v
+unfolding sqrtOf
+rooted p m t v r z d e h = h ∙ ap (λ (k : ℕ). rootAt binary32 (k * 2 ^ (p / hid binary32 + raised binary32))) d ∙ ap (λ (k : ℕ). rootAt binary32 (m * 2 ^ k)) e ∙ sym (shape-root binary32 v m t z)
 
 -- in the arm of the field 0, past the test for zero: x is subnormal
 module _ (c : tie.Else4) where
   abbrev n : ℕ
   n = b (c .before .before .before)
 
-  small : n < 2 ^ 23
+  small : n < hid binary32
   small = omega (arith, c .before .match .keys1, c .before .before .if2 .left)
 
-  shifts : (8 ≤ leadingZeros 32 n) × (shift n ≤ 23) × (2 ^ 23 ≤ n * 2 ^ shift n) × (n * 2 ^ shift n < 2 ^ 24)
-  shifts = shift-of n (omega (arith, c .if4 .left)) small
+  shifts : (width - prec binary32 ≤ leadingZeros width n) × (places n < prec binary32) × (hid binary32 ≤ n * 2 ^ places n) × (n * 2 ^ places n < 2 ^ prec binary32)
+  shifts = shift-of binary32 width n (lit≤ tt) (omega (arith, c .if4 .left)) small
 
-  unwrapped : n * 2 ^ shift n % 2 ^ 32 ≡ n * 2 ^ shift n
+  unwrapped : n * 2 ^ places n % 2 ^ width ≡ n * 2 ^ places n
   unwrapped = mod-eq-of-lt (lt-of-lt-of-le (shifts .3) (lit≤ tt))
 
-  shaped : Shape (x (c .before .before .before)) (n * 2 ^ shift n) (149 - shift n)
+  shaped : Shape binary32 (x (c .before .before .before)) (n * 2 ^ places n) (low binary32 - places n)
   shaped =
-      subst (λ (v : Float). Shape v (n * 2 ^ shift n) (149 - shift n))
-      (sym (ap (λ (z : ℕ). ofFields binary32 false z (n % 2 ^ 23)) (div-eq-of-lt small) ∙ ap (ofFields binary32 false 0) (mod-eq-of-lt small)) ∙ clear (c .before .before))
-      (shape-subnormal n (omega (arith, c .if4 .left)) small)
+      subst (λ (v : Float). Shape binary32 v (n * 2 ^ places n) (low binary32 - places n))
+      (sym (ap (λ (z : ℕ). ofFields binary32 false z (n % hid binary32)) (div-eq-of-lt small) ∙ ap (ofFields binary32 false 0) (mod-eq-of-lt small)) ∙ clear (c .before .before))
+      (shape-subnormal binary32 width n (lit≤ tt) (omega (arith, c .if4 .left)) small)
 
 returns : tie.Need-returns
-unfolding sqrtOf
+unfolding sqrtOf sqrtAt
 returns c = fixed nan (c .before .args .x) refl (sym (nan-of (c .before .args .x) (c .if1 .taken)))
 
 float-to-bits-bits : tie.Need-float-to-bits-bits
@@ -75,18 +84,23 @@ float-to-bits-bits c = no-nan c
 
 -- -0.0
 returns-2 : tie.Need-returns-2
-unfolding sqrtOf ofFields
-returns-2 c = let s = c .before .before in fixed (at binary32 (2 ^ 31)) (x s) refl (ap (at binary32) (sym (c .if3 .taken)) ∙ is-x s)
+unfolding sqrtOf sqrtAt ofFields
+returns-2 c = let s = c .before .before in fixed (at binary32 (top binary32)) (x s) refl (ap (at binary32) (sym (c .if3 .taken)) ∙ is-x s)
 
 returns-3 : tie.Need-returns-3
+unfolding sqrtOf
 returns-3 c =
     let s = c .before .before in
+    let l : top binary32 < b s = omega (arith, c .before .if2 .taken, c .if3 .left) in
     quotient-nan
-    ∙ sym (ap sqrtOf (sym (is-x s)) ∙ negative-root (b s) (omega (arith, c .before .if2 .taken, c .if3 .left)) (toBits-lt binary32 (x s) (held s)) (subst (λ (v : Float). T (not (isNan v))) (sym (is-x s)) (no-nan s)))
+    ∙ sym (ap sqrtOf (sym (is-x s)) ∙ negative-root binary32 (b s) l (digit (b s) l (toBits-lt binary32 (x s) (held s))) (subst (λ (v : Float). T (not (isNan v))) (sym (is-x s)) (no-nan s)))
+  where
+    digit : (b : ℕ) → top binary32 < b → b < 2 * top binary32 → b % top binary32 / hid binary32 ≡ 0 → 0 < b % hid binary32
+    digit b l h e = omega arith
 
 -- 0.0
 returns-4 : tie.Need-returns-4
-unfolding sqrtOf ofFields
+unfolding sqrtOf sqrtAt ofFields
 returns-4 c = let s = c .before .before .before in fixed (at binary32 0) (x s) refl (ap (at binary32) (sym (c .if4 .taken)) ∙ is-x s)
 
 sub-zeros : tie.Need-sub-zeros
@@ -107,26 +121,29 @@ root-requires c κs = omega (arith, shifts c .3, unwrapped c)
 returns-5 : tie.Need-returns-5
 returns-5 c =
     let l = c .before in
-    rooted (n l * 2 ^ shift (n l) % 2 ^ 32 + (24 - shift (n l)) * 2 ^ 23 % 2 ^ 32) (n l * 2 ^ shift (n l)) (149 - shift (n l)) (x (l .before .before .before)) (c .root .result) (shaped l)
+    let s = places (n l) in
+    rooted (n l * 2 ^ s % 2 ^ width + (prec binary32 - s) * hid binary32 % 2 ^ width) (n l * 2 ^ s) (low binary32 - s) (x (l .before .before .before)) (c .root .result) (shaped l)
     (omega (arith, shifts l, unwrapped l))
     (omega (arith, shifts l, unwrapped l))
     (c .root .ensures)
 
 -- the infinity
 returns-6 : tie.Need-returns-6
-unfolding sqrtOf
+unfolding sqrtOf sqrtAt
 returns-6 c =
     let s = c .before .before in
     let e = clear (c .before) in
-    let k : b s / 2 ^ 23 ≡ 255 = omega (arith, c .match .keys2, c .before .if2 .left) in
-    fixed (inf false) (x s) refl (sym (infinite-at binary32 false (b s / 2 ^ 23) (b s % 2 ^ 23) k (subst (λ (v : Float). T (not (isNan v))) (sym e) (no-nan s))) ∙ e)
+    let k : b s / hid binary32 ≡ ones binary32 = omega (arith, c .match .keys2, c .before .if2 .left) in
+    fixed (inf false) (x s) refl (sym (infinite-at binary32 false (b s / hid binary32) (b s % hid binary32) k (subst (λ (v : Float). T (not (isNan v))) (sym e) (no-nan s))) ∙ e)
 
 returns-7 : tie.Need-returns-7
 returns-7 c =
     let m = c .before in
     let n = b (m .before .before) in
-    rooted (n + 0xc00_0000) (n % 2 ^ 23 + 2 ^ 23) (n / 2 ^ 23 + 148) (x (m .before .before)) (c .root2 .result)
-    (subst (λ (v : Float). Shape v (n % 2 ^ 23 + 2 ^ 23) (n / 2 ^ 23 + 148)) (clear (m .before)) (shape-normal (n / 2 ^ 23) (n % 2 ^ 23) (omega arith) (omega (arith, m .match .rest .0 .1)) (omega (arith, m .match .rest .1, m .before .if2 .left))))
+    let E = n / hid binary32 in
+    let t = n % hid binary32 in
+    rooted (n + prec binary32 * hid binary32) (t + hid binary32) (E + (low binary32 - 1)) (x (m .before .before)) (c .root2 .result)
+    (subst (λ (v : Float). Shape binary32 v (t + hid binary32) (E + (low binary32 - 1))) (clear (m .before)) (shape-normal binary32 E t (omega arith) (omega (arith, m .match .rest .0 .1)) (omega (arith, m .match .rest .1, m .before .if2 .left))))
     (omega arith)
     (omega arith)
     (c .root2 .ensures)
