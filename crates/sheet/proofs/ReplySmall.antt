@@ -40,9 +40,9 @@ first-most most (row ∷ rest) h = let both = and-eq-true-iff (leb (row .1) most
 
 -- ---- of create_curve_shape
 
-abbrev CreatedSmall : Created → Type 0
-CreatedSmall (created.Curves pieces) = pieces ≤ mostCurves
-CreatedSmall (created.Refused number) = number ≤ 18
+abbrev CreatedBounded : Created → Type 0
+CreatedBounded (created.Curves pieces) = pieces ≤ mostCurves
+CreatedBounded (created.Refused number) = number ≤ 18
 
 module _ (l : List Float) (p : Params) (room : ℕ) where
   told-most : firstOf (createRefusals l p room) ≤ 18
@@ -58,40 +58,40 @@ module _ (l : List Float) (p : Params) (room : ℕ) where
       let r = passed _ 4 _ (passed _ 3 _ (passed _ 2 _ (passed _ 1 _ (passed _ 0 _ e .1) .1) .1) .1) .1 in
       ltb-false _ _ (either-false (ltb mostPoints (length l / 3)) _ (passed _ 5 _ r .0))
 
-  created-small : CreatedSmall (createdOf l p room)
+  created-bounded : CreatedBounded (createdOf l p room)
   unfolding createdOf
-  created-small = go (firstOf (createRefusals l p room)) told-most made-most
+  created-bounded = go (firstOf (createRefusals l p room)) told-most made-most
     where
-      go : (k : ℕ) → k ≤ 18 → (k ≡ 0 → curveCount (length l / 3) p ≤ mostCurves) → CreatedSmall (told created.Refused k (created.Curves (curveCount (length l / 3) p)))
+      go : (k : ℕ) → k ≤ 18 → (k ≡ 0 → curveCount (length l / 3) p ≤ mostCurves) → CreatedBounded (told created.Refused k (created.Curves (curveCount (length l / 3) p)))
       go zero h few = few refl
       go (suc k) h few = h
 
 -- ---- of a sheet
 
-abbrev Small : Reply → Type 0
-Small (Accepted pieces reverse n) = pieces ≤ mostCurves
-Small (Refused number line) = number ≤ 18
+abbrev Bounded : Reply → Type 0
+Bounded (Accepted pieces reverse n) = pieces ≤ mostCurves
+Bounded (Refused number line) = number ≤ 18
 
-small-either : (b : Bool) (x y : Sheet) → Small (x .reply) → Small (y .reply) → Small (cond b x y .reply)
-small-either true x y p q = p
-small-either false x y p q = q
+bounded-either : (b : Bool) (x y : Sheet) → Bounded (x .reply) → Bounded (y .reply) → Bounded (cond b x y .reply)
+bounded-either true x y p q = p
+bounded-either false x y p q = q
 
-small-made : (h : Head) (n : ℕ) (rays : List Float) (made : Created) → CreatedSmall made → Small (withCurves h n rays made .reply)
+bounded-made : (h : Head) (n : ℕ) (rays : List Float) (made : Created) → CreatedBounded made → Bounded (withCurves h n rays made .reply)
 unfolding refusedWith
-small-made h n rays (created.Curves pieces) few = few
-small-made h n rays (created.Refused number) few = few
+bounded-made h n rays (created.Curves pieces) few = few
+bounded-made h n rays (created.Refused number) few = few
 
-small : (l : List ℕ) (room : ℕ) → Small (sheetOf l room .reply)
+bounded : (l : List ℕ) (room : ℕ) → Bounded (sheetOf l room .reply)
 unfolding sheetOf sheetWithin refusedWith
-small l room =
+bounded l room =
     let h = headOf l in
     let c = h .cursor in
-    let made = small-made h (rayCount l c) (over noRays 0 (raysOf l c)) (createdOf (pointsOf l c) (paramsIn h) room) (created-small (pointsOf l c) (paramsIn h) room) in
-    small-either (ltb mostBytes (length l)) _ _ (lit≤ tt) (small-either (isWhole l c) _ _ made (lit≤ tt))
+    let made = bounded-made h (rayCount l c) (over noRays 0 (raysOf l c)) (createdOf (pointsOf l c) (paramsIn h) room) (created-bounded (pointsOf l c) (paramsIn h) room) in
+    bounded-either (ltb mostBytes (length l)) _ _ (lit≤ tt) (bounded-either (isWhole l c) _ _ made (lit≤ tt))
 
 -- THE LAWS
 pub curves-most : (l : List ℕ) (room pieces n : ℕ) (reverse : Bool) → sheetOf l room .reply ≡ Accepted pieces reverse n → pieces ≤ mostCurves
-curves-most l room pieces n reverse e = subst Small e (small l room)
+curves-most l room pieces n reverse e = subst Bounded e (bounded l room)
 
 pub number-most : (l : List ℕ) (room number line : ℕ) → sheetOf l room .reply ≡ Refused number line → number ≤ 18
-number-most l room number line e = subst Small e (small l room)
+number-most l room number line e = subst Bounded e (bounded l room)
