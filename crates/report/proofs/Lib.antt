@@ -1,1 +1,3 @@
-pub mod Longest
+pub mod Blocks
+pub mod Lines
+mod Longest

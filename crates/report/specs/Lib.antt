@@ -1,1 +1,3 @@
+pub mod Blocks
 pub mod Printed
+pub mod Report

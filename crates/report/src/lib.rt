@@ -1,7 +1,8 @@
-// The lines that are printed of a sheet: where a ray meets a curve, or why the sheet is refused.
+// What is printed of a sheet: where each ray meets each curve, or why the sheet is refused.
+mod block;
 mod line;
 
-pub use line::LONGEST;
-pub use line::put_answer;
-pub use line::put_pieces;
-pub use line::put_refused_sheet;
+pub use block::Block;
+pub use block::ROOM;
+pub use block::line_count;
+pub use block::put_block;

@@ -7,10 +7,6 @@ use text::put_decimal;
 use text::put_float;
 use text::put_word;
 
-// No line of an answer is longer: its keys and line feed have 36 bytes, three numbers up to ten digits each, and three
-// floats eight (`answer-most`).
-pub const LONGEST: usize = 90;
-
 // A key and a number.
 fn put_number(out: &mut [u8], at: usize, key: &[u8], n: u32) -> usize
     ensures { λ r. ⌜ Put (now (out .entry)) at (numberText (now (key .entry)) n) (now (out .exit)) r ⌝ }

@@ -1,4 +1,5 @@
 pub mod ReadBack
+pub mod ReplySmall
 pub mod ReplyWithin
 mod HeadBack
 mod Replies

@@ -1,0 +1,47 @@
+-- The report by its lines, numbered from 0, and in blocks of whole lines. Definitions only.
+use Prim.Native.Nat.{ℕ, _+_, _-_, _*_, _/_, _%_, _≤_}
+use mathlib.Core.Bool.{cond}
+use mathlib.Core.List.{List}
+use mathlib.Core.Path.{_≡_}
+use lib.Dec.{eqb}
+use lib.Ieee.{Float}
+use lib.ListN.{length}
+use Rattle.limits.specs.List.{over, upTo}
+use Rattle.create.specs.Create.{mostCurves}
+use Rattle.sheet.specs.Sheet.{mostRays, lastLine}
+use Rattle.sheet.specs.declared.Reply.{Reply}
+use Rattle.sheet.specs.declared.Reply.the-variants.{Accepted, Refused}
+use Rattle.report.specs.declared.block.Block.{Block}
+use Rattle.report.specs.Printed.{piecesText, refusedSheetText}
+use Rattle.report.specs.Report.{metText}
+
+-- no line has more bytes
+abbrev pub longest : ℕ
+longest = 90
+
+-- how large the numbers of a sheet's reply are
+abbrev pub Small : Reply → Type 0
+Small (Accepted pieces reverse n) = (pieces ≤ mostCurves) × (n ≤ mostRays)
+Small (Refused number line) = (number ≤ 18) × (line ≤ lastLine)
+
+abbrev pub lineCount : Reply → ℕ
+lineCount (Accepted pieces reverse n) = 1 + n * pieces
+lineCount (Refused number line) = 1
+
+module _ (rays list : List Float) where
+  -- line 0 is that of the pieces, or of the refusal; line 1 + i * pieces + j is ray i against curve j
+  abbrev pub lineText : Reply → ℕ → List ℕ
+  lineText (Accepted pieces reverse n) k = cond (eqb k 0) (piecesText pieces) (metText rays list reverse ((k - 1) / pieces) ((k - 1) % pieces))
+  lineText (Refused number line) k = refusedSheetText number line
+
+  -- the lines from one number up to another, which is not among them
+  unfoldable pub linesText : Reply → ℕ → ℕ → List ℕ
+  linesText reply from to = upTo (λ i. lineText reply (from + i)) (to - from)
+
+  -- a block that starts with line `from`: whole lines, none past the last, put into the list d from its start on; then the list is x
+  pub record IsBlock (reply : Reply) (from : ℕ) (d x : List ℕ) (b : Block) : Type 0 where
+    pub not-back : from ≤ b .next
+    pub none-past : b .next ≤ lineCount reply
+    pub all-put : x ≡ over d 0 (linesText reply from (b .next))
+    pub end-behind : b .end ≡ length (linesText reply from (b .next))
+    pub end-inside : b .end ≤ length d

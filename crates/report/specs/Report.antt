@@ -1,0 +1,46 @@
+-- All bytes that the program `beltbeam` prints for the bytes of a sheet (01: Belt sheet). Definitions only.
+use Prim.Native.Nat.{ℕ, _*_}
+use mathlib.Core.Bool.{Bool}
+use mathlib.Core.List.{List, _++_}
+use lib.Ieee.{Float}
+use lib.ListN.{take, drop, replicate}
+use Rattle.float.specs.Arith.{0f}
+use Rattle.limits.specs.List.{upTo}
+use Rattle.geometry.specs.Ray.{rayFloats, rayFrom}
+use Rattle.matrix.specs.Matrix.{identity}
+use Rattle.curve.specs.Layout.{floats}
+use Rattle.create.specs.Create.{mostCurves}
+use Rattle.intersect.specs.Intersect.{intersectOf}
+use Rattle.intersect.specs.declared.Intersection.{Intersection}
+use Rattle.sheet.specs.Sheet.{sheetOf, listOf}
+use Rattle.sheet.specs.declared.Reply.{Reply}
+use Rattle.sheet.specs.declared.Reply.the-variants.{Accepted, Refused}
+use Rattle.report.specs.Printed.{piecesText, answerText, refusedSheetText}
+
+-- the curve j of a list
+unfoldable pub curveAt : List Float → ℕ → List Float
+curveAt list j = take floats (drop (j * floats) list)
+
+module _ (rays list : List Float) where
+  -- where ray i meets curve j: both matrices are the identity
+  unfoldable pub metAt : Bool → ℕ → ℕ → Intersection
+  metAt reverse i j = intersectOf (curveAt list j) identity identity reverse (rayFrom rays (i * rayFloats))
+
+  -- its line
+  abbrev pub metText : Bool → ℕ → ℕ → List ℕ
+  metText reverse i j = answerText i j (metAt reverse i j)
+
+  -- how many curves, and behind it all curves for each ray; or one line for a refused sheet
+  abbrev pub replyText : Reply → List ℕ
+  replyText (Accepted pieces reverse n) = piecesText pieces ++ upTo (λ i. upTo (metText reverse i) pieces) n
+  replyText (Refused number line) = refusedSheetText number line
+
+-- the floats that the program lends for the curves: as many as the most curves have, all 0
+abbrev pub roomFloats : ℕ
+roomFloats = mostCurves * floats
+
+unfoldable pub reportOf : List ℕ → List ℕ
+reportOf bytes =
+    let read = sheetOf bytes roomFloats in
+    let list = listOf bytes (replicate roomFloats 0f) in
+    replyText (read .rays) list (read .reply)
