@@ -1,13 +1,14 @@
 -- The nodes of the two halves are nodes of the whole: level k + 1 is the low half's level k, and then the high half's. Assumes nothing.
-use mathlib.Core.Bool.{Bool, true, false, not, _&&_, and-false, and-true}
+use mathlib.Core.Bool.{Bool, true, false, not, _&&_, and-false, and-true, and-eq-true-iff}
+use mathlib.Core.Logic.{_↔_}
 use mathlib.Core.Option.{Option, none, some}
 use mathlib.Core.Path.{_≡_, refl, sym, ap, ap₂, _∙_}
 use Prim.Native.Nat.{ℕ, zero, suc, _+_, _-_, _*_, _/_, _%_, _^_, _≤_, _<_, min}
-use native.Mathlib.Nat.{le-of-eq, lt-of-le-of-lt, pow-suc, add-suc, zero-mul, zero-add, add-mul, mul-lt-mul-of-pos-right}
+use native.Mathlib.Nat.{le-of-eq, lt-of-le-of-lt, pow-suc, add-suc, zero-mul, zero-add, add-mul, mul-lt-mul-of-pos-right, div-one, le-of-suc-le-suc, not-suc-le-zero}
 use native.Mathlib.Omega.{arith}
 use lib.Dec.{ltb, eqb, leb·suc-suc}
-use lib.Pow.{pow-pos, pow-add}
-use borrow.Author.Tests.{ltb-true, ltb-false, lt-ltb, le-ltb}
+use lib.Pow.{pow-pos, pow-add, shr-shr}
+use borrow.Author.Tests.{not-true, ltb-true, ltb-false, lt-ltb, le-ltb}
 use Rattle.bisection.specs.Below.{oneIf, orElse, countBelow, sumBelow}
 use Rattle.bisection.specs.Nodes.{notAfter, childOf, node, isOpen, openUpTo, passesAt, firstOpen, lastOpen}
 use Rattle.bisection.proofs.Below.{shift, first-ext, first-none, last-none, first-split, count-ext, count-split, count-le, count-none, sum-ext, sum-first, sum-add, sum-le, sum-none}
@@ -106,6 +107,39 @@ module _ {Node : Type 0} (low high : Node → Node) where
     unfolding isOpen
     open-high w s zero j l = rw (node-high s 0 j l, node-zero)
     open-high w s (suc k) j l = rw (node-high s (suc k) j l, half-up, open-high w s k (j / 2) (half-lt k j l))
+
+    -- A node is open exactly when neither it nor a node that holds it is thrown out: m levels up that is number j / 2 ^ m.
+    abbrev NoneThrown : Bool → Node → ℕ → ℕ → Type 0
+    NoneThrown w s k j = (w ≡ true) × ((m : ℕ) → m < k → thrown (node low high s (k - m) (j / 2 ^ m)) ≡ false)
+
+    above : (s : Node) (k j m : ℕ) → node low high s (suc k - suc m) (j / 2 ^ suc m) ≡ node low high s (k - m) (j / 2 / 2 ^ m)
+    above s k j m =
+        let e : suc k - suc m ≡ k - m = omega arith in
+        let p : 1 + m ≡ suc m = omega arith in
+        rw (e, ← p) (ap (node low high s (k - m)) (sym (shr-shr j 1 m)))
+
+    -- a node below the whole, and those that hold it
+    none-thrown : (w : Bool) (s : Node) (k j : ℕ) → (NoneThrown w s k (j / 2) × (not (thrown (node low high s (suc k) j)) ≡ true)) ↔ NoneThrown w s (suc k) j
+    none-thrown w s k j = (λ h. (h .0 .0, each (h .1) (h .0 .1)), back)
+      where
+        self : node low high s (suc k - 0) (j / 2 ^ 0) ≡ node low high s (suc k) j
+        self = let e : suc k - 0 ≡ suc k = omega arith in rw (e, div-one)
+
+        each : not (thrown (node low high s (suc k) j)) ≡ true → ((m : ℕ) → m < k → thrown (node low high s (k - m) (j / 2 / 2 ^ m)) ≡ false) → (m : ℕ) → m < suc k → thrown (node low high s (suc k - m) (j / 2 ^ m)) ≡ false
+        each e h zero l = rw self (not-true _ e)
+        each e h (suc m) l = rw (above s k j m) (h m (le-of-suc-le-suc l))
+
+        back : NoneThrown w s (suc k) j → NoneThrown w s k (j / 2) × (not (thrown (node low high s (suc k) j)) ≡ true)
+        back h = ((h .0, λ m l. ap thrown (sym (above s k j m)) ∙ h .1 (suc m) (omega arith)), ap not (ap thrown (sym self) ∙ h .1 0 (omega arith)))
+
+    pub open-iff : (w : Bool) (s : Node) (k j : ℕ) → (isOpen low high thrown w s k j ≡ true) ↔ NoneThrown w s k j
+    unfolding isOpen
+    open-iff w s zero j = (λ e. (e, λ m l. absurd (not-suc-le-zero l)), λ h. h .0)
+    open-iff w s (suc k) j =
+        let held = open-iff w s k (j / 2) in
+        let step = none-thrown w s k j in
+        let both = and-eq-true-iff _ _ in
+        (λ e. let b = both .0 e in step .0 (held .0 (b .0), b .1), λ h. let b = step .1 h in both .1 (held .1 (b .0), b .1))
 
     -- ---- the open nodes that start before m
 

@@ -1,3 +1,4 @@
+pub mod IntersectCorrect
 pub mod ReplySays
 mod Flat
 mod Steps

@@ -49,15 +49,16 @@ level-below : (d : ℕ) → (d ≡ 0 → ⊥) → 2 ^ suc (d - 1) + 2 ^ suc (d -
 level-below zero f = absurd (f refl)
 level-below (suc d) f = let e : suc d - 1 ≡ d = omega arith in rw e (sym (pow-two (suc d)))
 
-pub room-low : (d n : ℕ) → (d ≡ 0 → ⊥) → n + 2 ^ suc d ≤ 2 ^ 32 → n + 1 + 2 ^ suc (d - 1) ≤ 2 ^ 32
-room-low d n f h = omega (arith, level-below d f, pow-pos (suc (d - 1)))
+-- the count on entry, and after it
+pub room-low : (d n e : ℕ) → (d ≡ 0 → ⊥) → n + 2 ^ suc d ≤ 2 ^ 32 → e ≤ n + 1 → e + 2 ^ suc (d - 1) ≤ 2 ^ 32
+room-low d n e f h le = omega (arith, level-below d f, pow-pos (suc (d - 1)))
 
-pub room-high : (c : Curve) (v : View) (p : Subcurve) (d n m : ℕ) (l x : List Float) (r q : Walked) → (d ≡ 0 → ⊥) → n + 2 ^ suc d ≤ 2 ^ 32
-    → reached q x m ≡ halfIn c v (d - 1) p (reached r l (n + 1)) → m + 2 ^ suc (d - 1) ≤ 2 ^ 32
+pub room-high : (c : Curve) (v : View) (p : Subcurve) (d n e m : ℕ) (l x : List Float) (r q : Walked) → (d ≡ 0 → ⊥) → n + 2 ^ suc d ≤ 2 ^ 32 → e ≤ n + 1
+    → reached q x m ≡ halfIn c v (d - 1) p (reached r l e) → m + 2 ^ suc (d - 1) ≤ 2 ^ 32
 unfolding halfIn reached
-room-high c v p d n m l x r q f h e =
-    let grown = half-size lowHalf highHalf (isThrown c (v .zmax)) entered (λ s. settled (leafOf c v s)) isOver sizeOf entered-size (λ s. settled-size (leafOf c v s)) (d - 1) p (reached r l (n + 1)) in
-    omega (arith, level-below d f, ap sizeOf e, grown)
+room-high c v p d n e m l x r q f h le g =
+    let grown = half-size lowHalf highHalf (isThrown c (v .zmax)) entered (λ s. settled (leafOf c v s)) isOver sizeOf entered-size (λ s. settled-size (leafOf c v s)) (d - 1) p (reached r l e) in
+    omega (arith, level-below d f, ap sizeOf g, grown)
 
 -- ---- the returns
 

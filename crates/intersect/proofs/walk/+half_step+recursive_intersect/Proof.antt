@@ -77,13 +77,13 @@ walk-add-looked t c = record { fits = omega (arith, room-enter _ _ (c .before .b
 walk-half-step-requires : (t : ℕ) → walk-lts.Need-half-step-requires (walk-calls t) (walk-at t) walk.Post
 walk-half-step-requires t c κs =
     let cut = c .before .before .before in
-    (omega arith, (cut .before .before .before .pre .1 .0, room-low _ _ (cut .if1 .left) (cut .before .before .before .pre .1 .1)))
+    (omega arith, (cut .before .before .before .pre .1 .0, room-low _ _ _ (cut .if1 .left) (cut .before .before .before .pre .1 .1) (omega arith)))
 
 walk-half-step-requires-2 : (t : ℕ) → walk-lts.Need-half-step-requires-2 (walk-calls t) (walk-at t) walk.Post
 walk-half-step-requires-2 t c κs =
     let first = c .before .before .before .before .before in
     let cut = first .before .before .before .before in
-    (omega arith, (cut .before .before .before .pre .1 .0, room-high _ _ _ _ _ _ _ _ _ _ (cut .if1 .left) (cut .before .before .before .pre .1 .1) (first .half-step .ensures)))
+    (omega arith, (cut .before .before .before .pre .1 .0, room-high _ _ _ _ _ _ _ _ _ _ _ (cut .if1 .left) (cut .before .before .before .pre .1 .1) (omega arith) (first .half-step .ensures)))
 
 walk-returns : (t : ℕ) → walk-lts.Need-returns (walk-calls t) (walk-at t) walk.Post
 walk-returns t c =

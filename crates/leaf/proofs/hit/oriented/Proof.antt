@@ -6,7 +6,7 @@ use Rattle.leaf.proofs.hit.oriented.Tie as tie
 
 returns : tie.Need-returns
 unfolding orientedOf
-returns c = rw (← c .before .before .from .ensures, c .before .if1 .taken, ← c .mul .ensures)
+returns c = rw (← c .before .before .from .ensures, c .before .if1 .taken, c .mul .ensures)
 
 returns-2 : tie.Need-returns-2
 unfolding orientedOf
