@@ -2,14 +2,17 @@
 use mathlib.Core.Bool.{Bool, true, false, cond, _&&_, false≢true, true≢false}
 use mathlib.Core.Path.{_≡_, refl, sym, ap, subst, _∙_}
 use mathlib.Core.List.{List}
-use Prim.Native.Nat.{ℕ, _+_, _*_, _≤_}
+use Prim.Native.Nat.{ℕ, _+_, _*_, _<_, _≤_}
 use native.Mathlib.Nat.{le-refl}
 use native.Mathlib.Omega.{arith}
-use lib.Dec.{eqb, ltb, lit≤}
+use borrow.Author.Tests.{lt-ltb}
+use lib.Dec.{eqb, ltb, lit<, lit≤}
 use lib.ListN.{length}
 use Rattle.text.specs.Ascii.{ascii}
 use Rattle.text.specs.Bytes.{byteIs, standsAt, digitAt, isWord, wordAt}
-use Rattle.grammar.specs.Grammar.{lineFeed, longestKey, decimalAt, decimalLine, wordLineAt, wordLine, eitherLine, typeLine, laterLine, headLine}
+use Rattle.grammar.specs.Grammar.{lineFeed, longestKey, decimalAt, decimalLine, wordLineAt, wordLine, eitherLine, typeLine, laterLine, headLine, headLines, lineAt}
+use Rattle.grammar.specs.Taken.{behindOf, takenOf, takenAt}
+use Rattle.grammar.specs.declared.reader.Taken.{Taken}
 use Rattle.grammar.specs.Head.{advanced, fieldOf, startOf, headOf}
 use Rattle.grammar.specs.declared.line.Line.{Line}
 use Rattle.grammar.specs.declared.line.Line.the-variants.{Value, Wrong}
@@ -84,26 +87,31 @@ head-by l number at =
     let basis = by-cond (at + 30) (eqb number 1) (eitherLine l at (ascii "basis=bezier\n") (ascii "basis=bspline\n")) _ (either-by l at (ascii "basis=bezier\n") (ascii "basis=bspline\n") (lit≤ tt) (lit≤ tt)) ty in
     by-cond (at + 30) (eqb number 0) (decimalLine l at (ascii "degree=")) _ (decimal-line-by l at (ascii "degree=") (lit≤ tt)) basis
 
-field-by : (l : List ℕ) (number : ℕ) (c : Cursor) → fieldOf l number c .cursor .at ≤ c .at + 30
-unfolding fieldOf By
-field-by l number c = go (c .ok) (headLine l number (c .at)) (head-by l number (c .at))
+-- a line of the head, as one of any kind
+head-at : (l : List ℕ) (number at : ℕ) → number < headLines → lineAt l number at ≡ headLine l number at
+unfolding lineAt
+head-at l number at h = rw (lt-ltb number headLines h)
+
+field-by : (l : List ℕ) (number : ℕ) (c : Cursor) → number < headLines → fieldOf l number c .cursor .at ≤ c .at + 30
+unfolding fieldOf advanced takenAt By
+field-by l number c h = go (c .ok) (lineAt l number (c .at)) (subst (By (c .at + 30)) (sym (head-at l number (c .at) h)) (head-by l number (c .at)))
   where
-    go : (b : Bool) (x : Line) → By (c .at + 30) x → (cond b (advanced c number x) (record { cursor = c; value = 0 })) .cursor .at ≤ c .at + 30
+    go : (b : Bool) (x : Line) → By (c .at + 30) x → (cond b (advanced number (takenOf x (behindOf x (c .at)))) (record { cursor = c; value = 0 })) .cursor .at ≤ c .at + 30
     go true (Value v next) h = h
     go true Wrong h = omega arith
     go false x h = omega arith
 
 -- of a field that was read
-pub near : (l : List ℕ) (number : ℕ) (c : Cursor) (f : Field) → f ≡ fieldOf l number c → f .cursor .at ≤ c .at + 30
-near l number c f e = subst (λ (x : Field). x .cursor .at ≤ c .at + 30) (sym e) (field-by l number c)
+pub near : (l : List ℕ) (number : ℕ) (c : Cursor) (f : Field) → number < headLines → f ≡ fieldOf l number c → f .cursor .at ≤ c .at + 30
+near l number c f h e = subst (λ (x : Field). x .cursor .at ≤ c .at + 30) (sym e) (field-by l number c h)
 
 -- ---- the returns of `take_field`
 
-pub field-taken : (l : List ℕ) (number : ℕ) (c : Cursor) (x : Line) (f : Field) → c .ok ≡ true → x ≡ headLine l number (c .at) → f ≡ advanced c number x → f ≡ fieldOf l number c
+pub field-taken : (l : List ℕ) (number : ℕ) (c : Cursor) (t : Taken) (f : Field) → c .ok ≡ true → t ≡ takenAt l number (c .at) → f ≡ advanced number t → f ≡ fieldOf l number c
 unfolding fieldOf
-field-taken l number c x f e h g = g ∙ ap (advanced c number) h ∙ go (c .ok) e
+field-taken l number c t f e h g = g ∙ ap (advanced number) h ∙ go (c .ok) e
   where
-    go : (b : Bool) → b ≡ true → advanced c number (headLine l number (c .at)) ≡ cond b (advanced c number (headLine l number (c .at))) (record { cursor = c; value = 0 })
+    go : (b : Bool) → b ≡ true → advanced number (takenAt l number (c .at)) ≡ cond b (advanced number (takenAt l number (c .at))) (record { cursor = c; value = 0 })
     go true e = refl
     go false e = absurd (false≢true e)
 
@@ -111,20 +119,30 @@ pub field-kept : (l : List ℕ) (number : ℕ) (c : Cursor) → c .ok ≡ false 
 unfolding fieldOf
 field-kept l number c = go (c .ok)
   where
-    go : (b : Bool) → b ≡ false → record { cursor = c; value = 0 } ≡ cond b (advanced c number (headLine l number (c .at))) (record { cursor = c; value = 0 })
+    go : (b : Bool) → b ≡ false → record { cursor = c; value = 0 } ≡ cond b (advanced number (takenAt l number (c .at))) (record { cursor = c; value = 0 })
     go true e = absurd (true≢false e)
     go false e = refl
+
+-- ---- a field that is right
+
+pub field-right : (l : List ℕ) (number : ℕ) (c : Cursor) (v next : ℕ) → number < headLines → c .ok ≡ true → headLine l number (c .at) ≡ Value v next
+    → fieldOf l number c ≡ record { cursor = record { at = next; lines = number + 1; ok = true }; value = v }
+unfolding fieldOf advanced takenAt
+field-right l number c v next h e g = rw (e, head-at l number (c .at) h, g)
 
 -- ---- the head is short
 
 field-lines : (l : List ℕ) (number : ℕ) (c : Cursor) → c .lines ≤ number → fieldOf l number c .cursor .lines ≤ number + 1
-unfolding fieldOf
-field-lines l number c h = go (c .ok) (headLine l number (c .at))
+unfolding fieldOf advanced
+field-lines l number c h = go (c .ok)
   where
-    go : (b : Bool) (x : Line) → (cond b (advanced c number x) (record { cursor = c; value = 0 })) .cursor .lines ≤ number + 1
-    go true (Value v next) = le-refl (number + 1)
-    go true Wrong = omega arith
-    go false x = omega arith
+    counted : (d : Bool) → cond d (number + 1) number ≤ number + 1
+    counted true = le-refl (number + 1)
+    counted false = omega arith
+
+    go : (b : Bool) → (cond b (advanced number (takenAt l number (c .at))) (record { cursor = c; value = 0 })) .cursor .lines ≤ number + 1
+    go true = counted (takenAt l number (c .at) .ok)
+    go false = omega arith
 
 pub head-short : (l : List ℕ) (h : Head) → h ≡ headOf l → (h .cursor .at ≤ 210) × (h .cursor .lines ≤ 7)
 unfolding headOf startOf
@@ -136,6 +154,6 @@ head-short l h e =
     let f4 = fieldOf l 4 (f3 .cursor) in
     let f5 = fieldOf l 5 (f4 .cursor) in
     rw e (
-      omega (arith, field-by l 0 startOf, field-by l 1 (f0 .cursor), field-by l 2 (f1 .cursor), field-by l 3 (f2 .cursor), field-by l 4 (f3 .cursor), field-by l 5 (f4 .cursor), field-by l 6 (f5 .cursor)),
+      omega (arith, field-by l 0 startOf (lit< tt), field-by l 1 (f0 .cursor) (lit< tt), field-by l 2 (f1 .cursor) (lit< tt), field-by l 3 (f2 .cursor) (lit< tt), field-by l 4 (f3 .cursor) (lit< tt), field-by l 5 (f4 .cursor) (lit< tt), field-by l 6 (f5 .cursor) (lit< tt)),
       field-lines l 6 (f5 .cursor) (field-lines l 5 (f4 .cursor) (field-lines l 4 (f3 .cursor) (field-lines l 3 (f2 .cursor) (field-lines l 2 (f1 .cursor) (field-lines l 1 (f0 .cursor) (field-lines l 0 startOf (le-refl 0))))))),
     )

@@ -1,3 +1,4 @@
 pub mod Fields
 pub mod Floats
+pub mod Returned
 pub mod Runs

@@ -5,6 +5,8 @@ use mathlib.Core.List.{List, [], _∷_}
 use lib.Dec.{eqb, ltb}
 use lib.Ieee.{Float, binary32, ofBits}
 use lib.ListN.{length}
+use Rattle.geometry.specs.Point.{pointFloats}
+use Rattle.geometry.specs.Ray.{rayFloats}
 use Rattle.limits.specs.List.{upTo}
 use Rattle.text.specs.Ascii.{ascii}
 use Rattle.text.specs.Bytes.{allBelow, byteIs, standsAt, digitAt, isWord, wordAt}
@@ -108,6 +110,42 @@ floatAt l at = ofBits binary32 (wordAt l at)
 unfoldable pub floatsAt : List ℕ → ℕ → ℕ → List Float
 floatsAt l at zero = []
 floatsAt l at (suc n) = floatAt l at ∷ floatsAt l (at + floatSize) n
+
+-- 01's keys: a point's, and a beam's
+abbrev pub pointKey : List ℕ
+pointKey = ascii "point="
+
+abbrev pub rayKey : List ℕ
+rayKey = ascii "beam="
+
+-- the row as a line: its value is how many floats it has
+unfoldable pub rowAt : List ℕ → ℕ → List ℕ → ℕ → Line
+rowAt l at key n = cond (isRow l at key n) (Value n (at + rowSize key n)) Wrong
+
+-- ---- a line of any kind
+
+-- the kinds: 0 to 6 are the head's in their order, then a point, and any other is a ray
+abbrev pub headLines : ℕ
+headLines = 7
+
+abbrev pub pointLine : ℕ
+pointLine = 7
+
+abbrev pub rayLine : ℕ
+rayLine = 8
+
+unfoldable pub rowKey : ℕ → List ℕ
+rowKey kind = cond (eqb kind pointLine) pointKey rayKey
+
+unfoldable pub rowFloats : ℕ → ℕ
+rowFloats kind = cond (eqb kind pointLine) pointFloats rayFloats
+
+unfoldable pub rowLine : List ℕ → ℕ → ℕ → Line
+rowLine l kind at = rowAt l at (rowKey kind) (rowFloats kind)
+
+-- the line that starts at a place: its value, and the place behind its LF
+unfoldable pub lineAt : List ℕ → ℕ → ℕ → Line
+lineAt l kind at = cond (ltb kind headLines) (headLine l kind at) (rowLine l kind at)
 
 -- ---- rows, one behind the other
 

@@ -1,22 +1,20 @@
 -- The head of a belt sheet: its seven lines in their order. Definitions only.
 use Prim.Native.Nat.{ℕ, _+_}
-use mathlib.Core.Bool.{true, false, cond}
+use mathlib.Core.Bool.{true, cond}
 use mathlib.Core.List.{List}
-use Rattle.grammar.specs.Grammar.{headLine}
-use Rattle.grammar.specs.declared.line.Line.{Line}
-use Rattle.grammar.specs.declared.line.Line.the-variants.{Value, Wrong}
+use Rattle.grammar.specs.Taken.{takenAt}
+use Rattle.grammar.specs.declared.reader.Taken.{Taken}
 use Rattle.grammar.specs.declared.head.Cursor.{Cursor}
 use Rattle.grammar.specs.declared.head.Field.{Field}
 use Rattle.grammar.specs.declared.head.Head.{Head}
 
--- The cursor after a line: behind it with its value, or where it was. `lines` is how many lines were right.
-abbrev pub advanced : Cursor → ℕ → Line → Field
-advanced c number (Value v next) = record { cursor = record { at = next; lines = number + 1; ok = true }; value = v }
-advanced c number Wrong = record { cursor = record { at = c .at; lines = number; ok = false }; value = 0 }
+-- the cursor behind line `number`, with its value; `lines` is how many lines were right
+unfoldable pub advanced : ℕ → Taken → Field
+advanced number t = record { cursor = record { at = t .at; lines = cond (t .ok) (number + 1) number; ok = t .ok }; value = t .value }
 
 -- line `number` of the head, unless one before it was wrong
 unfoldable pub fieldOf : List ℕ → ℕ → Cursor → Field
-fieldOf l number c = cond (c .ok) (advanced c number (headLine l number (c .at))) (record { cursor = c; value = 0 })
+fieldOf l number c = cond (c .ok) (advanced number (takenAt l number (c .at))) (record { cursor = c; value = 0 })
 
 unfoldable pub startOf : Cursor
 startOf = record { at = 0; lines = 0; ok = true }

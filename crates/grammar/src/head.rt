@@ -3,8 +3,8 @@ ghost use mathlib.Core.Path.{_≡_};
 ghost use Prim.Native.Nat.{_≤_};
 ghost use Rattle.grammar.specs.Grammar.{far};
 ghost use Rattle.grammar.specs.Head.{advanced, fieldOf, startOf, headOf};
-use crate::line::Line;
-use crate::reader::line_from;
+use crate::reader::Taken;
+use crate::reader::read_line;
 
 // Where the next line starts, how many lines before it are right, and whether none was wrong.
 pub struct Cursor {
@@ -30,26 +30,25 @@ pub struct Head {
     pub reverse: u32,
 }
 
-fn advance(c: Cursor, number: u8, line: Line) -> Field
-    ensures { λ r. ⌜ r ≡ advanced c number line ⌝ }
+// The cursor behind a line, with the line's value. `number` lines stand before it.
+fn advance(number: u8, t: Taken) -> Field
+    ensures { λ r. ⌜ r ≡ advanced number t ⌝ }
 {
-    match line {
-        Line::Value(value, next) => {
-            let cursor = Cursor {
-                at: next,
-                lines: number as usize + 1,
-                ok: true,
-            };
-            Field { cursor, value }
-        }
-        Line::Wrong => {
-            let cursor = Cursor {
-                at: c.at,
-                lines: number as usize,
-                ok: false,
-            };
-            Field { cursor, value: 0 }
-        }
+    let value = t.value;
+    if t.ok {
+        let cursor = Cursor {
+            at: t.at,
+            lines: number as usize + 1,
+            ok: true,
+        };
+        Field { cursor, value }
+    } else {
+        let cursor = Cursor {
+            at: t.at,
+            lines: number as usize,
+            ok: false,
+        };
+        Field { cursor, value }
     }
 }
 
@@ -59,7 +58,7 @@ fn take_field(s: &[u8], number: u8, c: Cursor) -> Field
     ensures { λ r. ⌜ r ≡ fieldOf (now (s .entry)) number c ⌝ }
 {
     if c.ok {
-        advance(c, number, line_from(s, number, c.at))
+        advance(number, read_line(s, number, c.at))
     } else {
         Field {
             cursor: c,

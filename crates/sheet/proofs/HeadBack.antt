@@ -15,8 +15,10 @@ use Rattle.text.proofs.Decimal.{decimal-one, decimal-more}
 use Rattle.text.proofs.DigitsBack.{digit-no-end, digit-back, digit-here, word-back}
 use Rattle.text.proofs.Places.{Reads, reads-next, byte-at, byte-here, stands, stands-not}
 use Rattle.grammar.specs.Grammar.{decimalAt, decimalLine, wordLineAt, wordLine, eitherLine, typeLine, laterLine, headLine}
-use Rattle.grammar.specs.Head.{fieldOf, startOf, headOf}
+use Rattle.grammar.specs.Head.{startOf, headOf}
 use Rattle.sheet.specs.Written.{Text, IsText, IsWord, basisOf, typeOf, lineOf, headText, headAt, headWritten}
+use Rattle.grammar.proofs.Fields.{field-right}
+use Rattle.grammar.specs.declared.head.Cursor.{Cursor}
 use Rattle.grammar.specs.declared.line.Line.{Line}
 use Rattle.grammar.specs.declared.line.Line.the-variants.{Value}
 
@@ -108,6 +110,10 @@ type-line l at (suc (suc (suc n))) r h b = absurd (omega arith)
 
 -- ---- the whole of it
 
+-- the cursor behind so many right lines
+abbrev right : ℕ → ℕ → Cursor
+right at lines = record { at = at; lines = lines; ok = true }
+
 -- the seven lines, each from where the one before it ends
 head-is :
     (l : List ℕ) (t : Text) (a b c d e f g : ℕ)
@@ -119,8 +125,17 @@ head-is :
     → headLine l 5 e ≡ Value (t .splitdepth) f
     → headLine l 6 f ≡ Value (t .reverse) g
     → headOf l ≡ headAt t g
-unfolding headOf startOf fieldOf
-head-is l t a b c d e f g p q r s u v w = rw (p, q, r, s, u, v, w)
+unfolding headOf startOf
+head-is l t a b c d e f g p q r s u v w =
+    rw (
+      field-right l 0 startOf _ a (lit< tt) refl p,
+      field-right l 1 (right a 1) _ b (lit< tt) refl q,
+      field-right l 2 (right b 2) _ c (lit< tt) refl r,
+      field-right l 3 (right c 3) _ d (lit< tt) refl s,
+      field-right l 4 (right d 4) _ e (lit< tt) refl u,
+      field-right l 5 (right e 5) _ f (lit< tt) refl v,
+      field-right l 6 (right f 6) _ g (lit< tt) refl w,
+    )
 
 head-at : (l : List ℕ) (t : Text) (r : List ℕ) → IsText t → Reads l 0 (headText t ++ r) → (next : ℕ) × (headOf l ≡ headAt t next) × Reads l next r
 unfolding headText headLine laterLine

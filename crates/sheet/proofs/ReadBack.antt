@@ -15,10 +15,10 @@ use Rattle.limits.specs.List.{over}
 use Rattle.text.specs.Ascii.{ascii}
 use Rattle.text.specs.Digits.{digitChar, decimalIn, decimalText, fourText, hexText}
 use Rattle.text.proofs.Places.{Reads, reads-start}
-use Rattle.grammar.specs.Grammar.{rowSize, roomPoints, mostBytes}
+use Rattle.grammar.specs.Grammar.{rowSize, pointKey, rayKey, roomPoints, mostBytes}
 use Rattle.geometry.specs.Point.{pointFloats}
 use Rattle.grammar.specs.Head.{headOf}
-use Rattle.sheet.specs.Sheet.{pointKey, rayKey, mostRays, raysFrom, raysRead, pointCount, raysAt, rayCount, isWhole, pointsOf, raysOf, noRays, paramsIn, withCurves, sheetWithin, sheetOf, listWithin, listOf}
+use Rattle.sheet.specs.Sheet.{mostRays, raysFrom, raysRead, pointCount, raysAt, rayCount, isWhole, pointsOf, raysOf, noRays, paramsIn, withCurves, sheetWithin, sheetOf, listWithin, listOf}
 use Rattle.sheet.specs.Written.{Text, IsText, IsWord, IsRowOf, basisOf, typeOf, lineOf, headText, commas, rowsText, textOf, rowsFloats, headAt, headWritten}
 use Rattle.grammar.specs.declared.head.Cursor.{Cursor}
 use Rattle.grammar.specs.declared.head.Head.{Head}

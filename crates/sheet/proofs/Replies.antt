@@ -14,9 +14,9 @@ use Rattle.geometry.specs.Ray.{rayFloats}
 use Rattle.limits.specs.List.{over, upTo}
 use Rattle.create.specs.declared.create.Created.{Created}
 use Rattle.limits.proofs.Lists.{over-nil, over-length, length-upTo}
-use Rattle.grammar.specs.Grammar.{rowSize, runBelow, rowsFrom, floatsFrom, roomPoints, mostBytes}
+use Rattle.grammar.specs.Grammar.{rowSize, pointKey, rayKey, runBelow, rowsFrom, floatsFrom, roomPoints, mostBytes}
 use Rattle.geometry.specs.Point.{pointFloats}
-use Rattle.sheet.specs.Sheet.{pointKey, rayKey, mostRays, raysFrom, raysRead, pointCount, pointsOf, raysAt, rayCount, raysOf, linesRight, isWhole, noRays, refusedWith, paramsIn, withCurves, sheetWithin, listWithin, sheetOf, listOf}
+use Rattle.sheet.specs.Sheet.{mostRays, raysFrom, raysRead, pointCount, pointsOf, raysAt, rayCount, raysOf, linesRight, isWhole, noRays, refusedWith, paramsIn, withCurves, sheetWithin, listWithin, sheetOf, listOf}
 use Rattle.grammar.specs.Head.{headOf}
 use Rattle.grammar.specs.declared.head.Cursor.{Cursor}
 use Rattle.grammar.specs.declared.head.Head.{Head}

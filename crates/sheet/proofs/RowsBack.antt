@@ -16,9 +16,8 @@ use Rattle.text.specs.Digits.{hexText}
 use Rattle.text.proofs.Below.{all-first, all-fails}
 use Rattle.text.proofs.DigitsBack.{word-back}
 use Rattle.text.proofs.Places.{Reads, reads-next, byte-here, stands-not}
-use Rattle.grammar.specs.Grammar.{separator, floatSize, isFloats, isRow, rowSize, floatAt, floatsAt, rowsFrom, floatsFrom}
+use Rattle.grammar.specs.Grammar.{separator, floatSize, isFloats, isRow, rowSize, floatAt, floatsAt, pointKey, rayKey, rowsFrom, floatsFrom}
 use Rattle.geometry.specs.Point.{pointFloats}
-use Rattle.sheet.specs.Sheet.{pointKey, rayKey}
 use Rattle.sheet.specs.Written.{AllOf, IsWord, IsRowOf, lineOf, commas, rowsText, rowsFloats}
 use Rattle.sheet.proofs.HeadBack.{line-key}
 use Rattle.grammar.proofs.Runs.{run-is}

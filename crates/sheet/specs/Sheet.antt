@@ -13,8 +13,7 @@ use Rattle.limits.specs.List.{over}
 use Rattle.create.specs.declared.create.Params.{Params}
 use Rattle.create.specs.declared.create.Created.{Created}
 use Rattle.create.specs.declared.create.Created.the-variants as created
-use Rattle.text.specs.Ascii.{ascii}
-use Rattle.grammar.specs.Grammar.{mostBytes, roomPoints, rowSize, rowsFrom, floatsFrom}
+use Rattle.grammar.specs.Grammar.{mostBytes, roomPoints, rowSize, pointKey, rayKey, rowsFrom, floatsFrom}
 use Rattle.grammar.specs.Head.{headOf}
 use Rattle.grammar.specs.declared.head.Cursor.{Cursor}
 use Rattle.grammar.specs.declared.head.Head.{Head}
@@ -23,13 +22,6 @@ use Rattle.sheet.specs.declared.Reply.the-variants.{Accepted, Refused}
 use Rattle.sheet.specs.declared.Sheet.{Sheet}
 
 -- ---- points and rays
-
-abbrev pub pointKey : List ℕ
-pointKey = ascii "point="
-
--- 01: beams
-abbrev pub rayKey : List ℕ
-rayKey = ascii "beam="
 
 -- as many rays as a sheet may have
 abbrev pub mostRays : ℕ

@@ -10,8 +10,8 @@ use Rattle.text.specs.Ascii.{ascii}
 use Rattle.text.specs.Digits.{decimalText, hexText}
 use Rattle.geometry.specs.Ray.{rayFloats}
 use Rattle.geometry.specs.Point.{pointFloats}
-use Rattle.sheet.specs.Sheet.{pointKey, rayKey, mostRays}
-use Rattle.grammar.specs.Grammar.{roomPoints}
+use Rattle.sheet.specs.Sheet.{mostRays}
+use Rattle.grammar.specs.Grammar.{roomPoints, pointKey, rayKey}
 use Rattle.grammar.specs.declared.head.Head.{Head}
 
 -- ---- what is written

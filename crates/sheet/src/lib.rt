@@ -15,6 +15,8 @@ use geometry::RAY_FLOATS;
 use grammar::Cursor;
 use grammar::FLOAT_SIZE;
 use grammar::Head;
+use grammar::POINT;
+use grammar::RAY;
 use grammar::read_head;
 use grammar::read_rows;
 
@@ -61,7 +63,7 @@ fn read_points(s: &[u8], c: Cursor, out: &mut [f32]) -> usize
     ensures { λ _. ⌜ now (out .exit) ≡ over (now (out .entry)) 0 (pointsOf (now (s .entry)) c) ⌝ }
 {
     if c.ok {
-        read_rows(s, c.at, b"point=", POINT_FLOATS, ROOM_POINTS, out)
+        read_rows(s, POINT, c.at, ROOM_POINTS, out)
     } else {
         0
     }
@@ -74,7 +76,7 @@ fn read_rays(s: &[u8], at: usize, points: usize, out: &mut [f32]) -> usize
     ensures { λ _. ⌜ now (out .exit) ≡ over (now (out .entry)) 0 (raysRead (now (s .entry)) at points) ⌝ }
 {
     if 0 < points {
-        read_rows(s, at, b"beam=", RAY_FLOATS, MOST_RAYS, out)
+        read_rows(s, RAY, at, MOST_RAYS, out)
     } else {
         0
     }

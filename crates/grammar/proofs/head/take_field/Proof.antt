@@ -5,7 +5,7 @@ use Rattle.grammar.proofs.head.take_field.Statement.{statement}
 use Rattle.grammar.proofs.head.take_field.Tie as tie
 
 returns : tie.Need-returns
-returns c = field-taken _ _ _ _ _ (c .before .before .if1 .taken) (c .before .line-from .ensures) (c .advance .ensures)
+returns c = field-taken _ _ _ _ _ (c .before .before .if1 .taken) (c .before .read-line .ensures) (c .advance .ensures)
 
 returns-2 : tie.Need-returns-2
 returns-2 c = field-kept _ _ _ (c .if1 .left)

@@ -1,4 +1,4 @@
--- `grammar::reader::next_line` meets its contract: a walk of its MIR, by hand. The struct is taken apart, and `head_line` is called on the slice, the line's number and the place. All that the proof knows of `head_line` is that it meets its contract.
+-- `grammar::reader::next_line` meets its contract: a walk of its MIR, by hand. The struct is taken apart, and `line_at` is called on the slice, the line's number and the place. All that the proof knows of `line_at` is that it meets its contract.
 -- The struct is Copy: what it owns is had twice, one copy is kept whole for the exit, and of the other what src owns goes to the callee, beside the lifetime's token, which comes back.
 -- Assumes nothing.
 use mathlib.Core.Path.{_≡_, refl}
@@ -43,17 +43,17 @@ use denote.Triple.Table.{entered, cited}
 use denote.Triple.Walked.{says, needs, Stays, stay-none, walkOf, goes-none, Walks, ends-at, walked, walk-meets}
 use denote.Exit.{yes}
 use denote.Triple.Clauses.{ensured, lasts}
-use Rattle.grammar.specs.Grammar.{far, headLine}
+use Rattle.grammar.specs.Grammar.{far, lineAt}
 use Rattle.grammar.specs.declared.line.Line.{Line}
 use Rattle.grammar.specs.declared.reader.Reader.{Reader}
 use Rattle.grammar.proofs.reader.Reader as T
 use Rattle.grammar.proofs.reader.Reader.Laws as T′
 use Rattle.grammar.proofs.line.Line as S
 use Rattle.grammar.proofs.line.Line.Laws as S′
-use Rattle.grammar.proofs.line.head_line as head
-use Rattle.grammar.proofs.line.head_line.Symbol as head-def
-use Rattle.grammar.proofs.line.head_line.Symbol.{name as #grammar·line·head-line}
-use Rattle.grammar.proofs.line.head_line.Met as head-thm
+use Rattle.grammar.proofs.reader.line_at as at-place
+use Rattle.grammar.proofs.reader.line_at.Symbol as at-def
+use Rattle.grammar.proofs.reader.line_at.Symbol.{name as #grammar·reader·line-at}
+use Rattle.grammar.proofs.reader.line_at.Met as at-thm
 use Rattle.grammar.proofs.reader.next_line.Key.{name as #grammar·reader·next-line}
 use Rattle.grammar.proofs.reader.next_line as next
 use Rattle.grammar.proofs.reader.next_line.Statement as stated
@@ -68,8 +68,8 @@ stayed = (stay-none B yes, (stay-none (λ _. u8) yes, tt))
 
 module _ {M : Type 1} (𝓤 : URA M) (H : Heap 𝓤) (A : Atoms 𝓤) (mem : Memory → SProp 𝓤) (run : Routine → Fun 𝓤) where
   -- the contract that the proof cites
-  abbrev HeadLine : Contract 𝓤
-  HeadLine = tripleOf 𝓤 H A head.signature (head.spec 𝓤 H A mem run)
+  abbrev LineAt : Contract 𝓤
+  LineAt = tripleOf 𝓤 H A at-place.signature (at-place.spec 𝓤 H A mem run)
 
 module _ {M : Type 1} (𝓤 : URA M) (H : Heap 𝓤) (A : Atoms 𝓤) (W : Given 𝓤 H A) (mem : Memory → SProp 𝓤) (run : Routine → Fun 𝓤) (κ : Lft) (q : Share) (d : Reader) (n : ℕ) (n-fits : n < 2 ^ 8) (within : d .at ≤ far) where
   abbrev mach : Val
@@ -80,7 +80,7 @@ module _ {M : Type 1} (𝓤 : URA M) (H : Heap 𝓤) (A : Atoms 𝓤) (W : Given
   v = sliceVal (d .src .ptr) (length (d .src .now))
 
   abbrev found : Line
-  found = headLine (now (d .src)) n (d .at)
+  found = lineAt (now (d .src)) n (d .at)
 
   abbrev at : Vals next.signature (κ, tt)
   at = (mach ∷ [], (vint w8 n ∷ [], tt))
@@ -102,28 +102,28 @@ module _ {M : Type 1} (𝓤 : URA M) (H : Heap 𝓤) (A : Atoms 𝓤) (W : Given
   vd = (d .src, (d .at, tt))
 
   -- what the callee is passed
-  abbrev passed : Vals head.signature (κ, tt)
+  abbrev passed : Vals at-place.signature (κ, tt)
   passed = (v ∷ [], (vint w8 n ∷ [], (vint w64 (d .at) ∷ [], tt)))
 
-  abbrev to : HeadLine 𝓤 H A mem run .Ghost
+  abbrev to : LineAt 𝓤 H A mem run .Ghost
   to = (((κ, tt), (q, tt), tt, (d .src, (n, (d .at, tt))), passed), tt)
 
-  asked : ent 𝓤 (onEntry 𝓤 H A head.signature (κ, tt) (q, tt) (d .src, (n, (d .at, tt))) passed) (HeadLine 𝓤 H A mem run .pre to)
+  asked : ent 𝓤 (onEntry 𝓤 H A at-place.signature (κ, tt) (q, tt) (d .src, (n, (d .at, tt))) passed) (LineAt 𝓤 H A mem run .pre to)
   asked = qed W ((‵ (flft κ q) ⊛ ‵ ftrue) ∷ ‵ (owns (ShrSlice (named 0) κ u8 ∷ u8 ∷ usize ∷ []) (d .src, (n, (d .at, tt))) passed) ∷ []) ∵ says ! within $ frame ! $ done !
 
   -- what the struct owns gives what the callee asks, and is kept
-  apart : d .at < 2 ^ 64 → ent 𝓤 (onEntry 𝓤 H A next.signature (κ, tt) (q, tt) (d, (n, tt)) at) (sep 𝓤 (HeadLine 𝓤 H A mem run .pre to) (sem 𝓤 H A Own))
+  apart : d .at < 2 ^ 64 → ent 𝓤 (onEntry 𝓤 H A next.signature (κ, tt) (q, tt) (d, (n, tt)) at) (sep 𝓤 (LineAt 𝓤 H A mem run .pre to) (sem 𝓤 H A Own))
   apart fits =
       qed W ((‵ (flft κ q) ⊛ ‵ ftrue) ∷ ‵ (owns (B (κ, tt) ∷ u8 ∷ []) (d, (n, tt)) at) ∷ []) ∵
       move ! (1 ∷ []) $ fsplit ! $ move ! (1 ∷ []) $ drop ! $ use1 W (‵ Own ⊛ ‵ Own) (LL.copy D (T′.the-copy (namedLft 1 0 tt (κ, tt))) 𝓤 H A W .twice d (mach ∷ [])) $ split ! $
       use1 W (given (mach ∷ [] ≡ mach ∷ []) (‵ (all-own (D .parts) L vd))) (own-open 𝓤 H A W D L vd mach) $ learn ! (λ _. use1 W (‵ (ownAt (D .parts) L 0 (d .src)) ⊛ ‵ (rest (D .parts) L 0 vd)) (own-out 𝓤 H A W (D .parts) L 0 vd) $ split ! $
       -- [what src owns; what at owns; what the struct owns; the token]
       move ! (1 ∷ []) $ drop ! $ nothing ! $ owned ! usize (Is usize) (uint-makes 𝓤 H A W w64) (d .at) _ (refl, fits) $ fjoin ! $ owned ! u8 (Is u8) (uint-makes 𝓤 H A W w8) n _ (refl, n-fits) $ fjoin ! $ move ! (1 ∷ 0 ∷ []) $ fjoin ! $
-      move ! (2 ∷ 0 ∷ []) $ use2 W (raw (HeadLine 𝓤 H A mem run .pre to)) asked $ frame ! $ done !)
+      move ! (2 ∷ 0 ∷ []) $ use2 W (raw (LineAt 𝓤 H A mem run .pre to)) asked $ frame ! $ done !)
 
   -- of the callee's `ensured`, the clause alone: it has no `&mut`, so what is said of last values is dropped
-  said : (r : Line) → ent 𝓤 (ensured 𝓤 H A head.ended (head.clauses 𝓤 H A mem run) (κ, tt) (d .src, (n, (d .at, tt))) tt r) (fact 𝓤 (r ≡ found))
-  said r = exE 𝓤 _ (λ ws. snd∗ 𝓤 (sem 𝓤 H A (lasts head.ended (κ, tt) (d .src, (n, (d .at, tt))) ws)) (fact 𝓤 (r ≡ found)))
+  said : (r : Line) → ent 𝓤 (ensured 𝓤 H A at-place.ended (at-place.clauses 𝓤 H A mem run) (κ, tt) (d .src, (n, (d .at, tt))) tt r) (fact 𝓤 (r ≡ found))
+  said r = exE 𝓤 _ (λ ws. snd∗ 𝓤 (sem 𝓤 H A (lasts at-place.ended (κ, tt) (d .src, (n, (d .at, tt))) ws)) (fact 𝓤 (r ≡ found)))
 
   exits : (r : Line) (u : Val) → r ≡ found → ent 𝓤 (⋆ 𝓤 H A (‵ (S.the-row .own r (u ∷ [])) ∷ (‵ (flft κ q) ⊛ ‵ ftrue) ∷ ‵ Own ∷ [])) (Post u)
   exits r u e =
@@ -131,7 +131,7 @@ module _ {M : Type 1} (𝓤 : URA M) (H : Heap 𝓤) (A : Atoms 𝓤) (W : Given
       suffices ! _ (ends-at 𝓤 H A next.ended stayed (next.clauses 𝓤 H A mem run) W (((κ, tt), (q, tt), tt, (d, (n, tt)), at), tt) u r (tt, (tt, tt)) (tt, (tt, tt))) $ says ! e $
       move ! (1 ∷ []) $ frame ! $ nothing ! $ owned ! u8 (Is u8) (uint-makes 𝓤 H A W w8) n _ (refl, n-fits) $ fjoin ! $ move ! (2 ∷ 0 ∷ []) $ fjoin ! $ frame ! $ done !
 
-  module _ (C : Calls 𝓤 H) (Λ : Loops 𝓤 H) (fm : FmC 𝓤 H (W .laws) C) (known : Triple 𝓤 (C #grammar·line·head-line) (HeadLine 𝓤 H A mem run)) where
+  module _ (C : Calls 𝓤 H) (Λ : Loops 𝓤 H) (fm : FmC 𝓤 H (W .laws) C) (known : Triple 𝓤 (C #grammar·reader·line-at) (LineAt 𝓤 H A mem run)) where
     walk : Holds (hasTy (T′.mir (named 0)) mach) × WT mach → ent 𝓤 (onEntry 𝓤 H A next.signature (κ, tt) (q, tt) (d, (n, tt)) at) (WpFn 𝓤 H C Λ code.function (mach ∷ vint w8 n ∷ []) Post)
     walk wt =
         qed W (raw (onEntry 𝓤 H A next.signature (κ, tt) (q, tt) (d, (n, tt)) at) ∷ []) ∵ enter ! C Λ code.function (mach ∷ vint w8 n ∷ []) _ $
@@ -139,9 +139,9 @@ module _ {M : Type 1} (𝓤 : URA M) (H : Heap 𝓤) (A : Atoms 𝓤) (W : Given
         alloc1 ! (λ l₀. alloc1 ! (λ l₁. alloc1 ! (λ l₂. alloc1 ! (λ l₃. alloc1 ! (λ l₄. alloc0 ! $ params1 ! $ pass1 ! (init ! 6 refl wt) $ pass1 ! (init ! 4 refl (tt, record { fits = n-fits })) $ pass0 ! $
         assigns ! (of-opd ! (load ! (from ! (fld ! refl (stop !))) (look-in ! 6 (sub ! 0 refl (whole !))))) (from ! (stop !)) (init ! 2 refl (tt, wt .1 .0)) $
         assigns ! (of-opd ! (load ! (from ! (fld ! refl (stop !))) (look-in ! 6 (sub ! 1 refl (whole !))))) (from ! (stop !)) (init ! 0 refl (tt, wt .1 .1 .0)) $
-        move ! (10 ∷ []) $ use1 W (raw (HeadLine 𝓤 H A mem run .pre to) ⊛ ‵ Own) (apart (wt .1 .1 .0 .fits)) $ split ! $
-        calls-at ! fm (HeadLine 𝓤 H A mem run) known to (and-then ! (load ! (from ! (stop !)) (look ! 4 refl)) (and-then ! (load ! (from ! (stop !)) (look ! 6 refl)) (and-then ! (load ! (from ! (stop !)) (look ! 2 refl)) (no-more !)))) (λ u.
-        use1 W (later (some (λ (r : Line). ((‵ (flft κ q) ⊛ ‵ ftrue) ⊛ ‵ (S.the-row .own r (u ∷ []))) ⊛ raw (ensured 𝓤 H A head.ended (head.clauses 𝓤 H A mem run) (κ, tt) (d .src, (n, (d .at, tt))) tt r)))) (id⊢ 𝓤 _) $ await ! tt $ pick ! (λ r.
+        move ! (10 ∷ []) $ use1 W (raw (LineAt 𝓤 H A mem run .pre to) ⊛ ‵ Own) (apart (wt .1 .1 .0 .fits)) $ split ! $
+        calls-at ! fm (LineAt 𝓤 H A mem run) known to (and-then ! (load ! (from ! (stop !)) (look ! 4 refl)) (and-then ! (load ! (from ! (stop !)) (look ! 6 refl)) (and-then ! (load ! (from ! (stop !)) (look ! 2 refl)) (no-more !)))) (λ u.
+        use1 W (later (some (λ (r : Line). ((‵ (flft κ q) ⊛ ‵ ftrue) ⊛ ‵ (S.the-row .own r (u ∷ []))) ⊛ raw (ensured 𝓤 H A at-place.ended (at-place.clauses 𝓤 H A mem run) (κ, tt) (d .src, (n, (d .at, tt))) tt r)))) (id⊢ 𝓤 _) $ await ! tt $ pick ! (λ r.
         split ! $ move ! (1 ∷ []) $ use1 W (raw (fact 𝓤 (r ≡ found))) (said r) $ heard ! (r ≡ found) (λ e. split ! $ move ! (1 ∷ []) $
         -- [the result; the token; what the struct owns; _4; …; _3; …; _2; …; _1; …; room for _0; …]
         peeks ! S.the-row (Is S.the-row) (shows 𝓤 H A S.the-row) r (u ∷ []) (λ is.
@@ -150,14 +150,14 @@ module _ {M : Type 1} (𝓤 : URA M) (H : Heap 𝓤) (A : Atoms 𝓤) (W : Given
         move ! (11 ∷ 12 ∷ []) $ free1 ! $ move ! (9 ∷ 10 ∷ []) $ free1 ! $ move ! (7 ∷ 8 ∷ []) $ free1 ! $ move ! (5 ∷ 6 ∷ []) $ free1 ! $ move ! (3 ∷ 4 ∷ []) $ free1 ! $ free0 ! $ by ! (exits r u e))))))))))
 
 module _ {M : Type 1} (𝓤 : URA M) (H : Heap 𝓤) (A : Atoms 𝓤) (W : Given 𝓤 H A) (mem : Memory → SProp 𝓤) (run : Routine → Fun 𝓤) where
-  next-line-walks : (C : Calls 𝓤 H) (Λ : Loops 𝓤 H) → FmC 𝓤 H (W .laws) C → Triple 𝓤 (C #grammar·line·head-line) (HeadLine 𝓤 H A mem run)
+  next-line-walks : (C : Calls 𝓤 H) (Λ : Loops 𝓤 H) → FmC 𝓤 H (W .laws) C → Triple 𝓤 (C #grammar·reader·line-at) (LineAt 𝓤 H A mem run)
       → Walks 𝓤 H A next.ended stayed (WpFn 𝓤 H C Λ code.function) (next.clauses 𝓤 H A mem run)
   next-line-walks C Λ fm known = walked 𝓤 H A next.ended stayed (next.clauses 𝓤 H A mem run) (WpFn 𝓤 H C Λ code.function) (λ κs. (LL.vals (T.the-type (namedLft 1 0 tt κs)) (T′.the-laws (namedLft 1 0 tt κs)), (uint-vals w8, tt))) (λ κs. (LL.tells (T.the-type (namedLft 1 0 tt κs)) (T′.the-laws (namedLft 1 0 tt κs)), (uint-tells w8, tt)))
       (λ κs qs bounds a g are. needs 𝓤 (a .0 .at ≤ far) _ (λ within.
       walk 𝓤 H A W mem run (κs .0) (qs .0) (a .0) (a .1 .0) (are .1 .0 .1) within C Λ fm known (LL.lawful (T.the-type (namedLft 1 0 tt κs)) (T′.the-laws (namedLft 1 0 tt κs)) 𝓤 H A W .typed (a .0) _ (are .0) .0)))
 
 next-line-meets : {M : Type 1} (𝓤 : URA M) (H : Heap 𝓤) (A : Atoms 𝓤) (W : Given 𝓤 H A) (mem : Memory → SProp 𝓤) (run : Routine → Fun 𝓤) (𝓣 : Tables 𝓤 H)
-    → Triple 𝓤 (𝓣 .C #grammar·line·head-line) (HeadLine 𝓤 H A mem run)
+    → Triple 𝓤 (𝓣 .C #grammar·reader·line-at) (LineAt 𝓤 H A mem run)
     → Meets 𝓤 H A next.signature (WpFn 𝓤 H (𝓣 .C) (𝓣 .Λ) code.function) (next.spec 𝓤 H A mem run)
 next-line-meets 𝓤 H A W mem run 𝓣 known = walk-meets 𝓤 H A next.ended stayed W (goes-none 𝓤 H A W 1 B yes (λ κs x f. refl), (goes-none 𝓤 H A W 1 (λ _. u8) yes (λ κs x f. refl), tt)) (next.clauses 𝓤 H A mem run) (WpFn 𝓤 H (𝓣 .C) (𝓣 .Λ) code.function) (WpFn-mono 𝓤 H (W .laws) 𝓣 code.function)
     (next-line-walks 𝓤 H A W mem run (𝓣 .C) (𝓣 .Λ) (fmOf 𝓤 H (W .laws) 𝓣) known)
@@ -168,4 +168,4 @@ next-line-spec 𝓤 H 𝓜 𝓖 𝓡 =
     entered 𝓤 H (tripleOf 𝓤 H (𝓖 .A) next.signature (next.spec 𝓤 H (𝓖 .A) (𝓜 .mem) (𝓡 .run)))
     (tables 𝓤 H 𝓜 𝓡 code.env .C) (tables 𝓤 H 𝓜 𝓡 code.env .Λ) #grammar·reader·next-line code.function (code.unfolded 𝓤 H 𝓜 𝓡)
     (next-line-meets 𝓤 H (𝓖 .A) (givenOf 𝓤 H 𝓜 𝓖) (𝓜 .mem) (𝓡 .run) (tablesOf 𝓤 H 𝓜 (tables 𝓤 H 𝓜 𝓡 code.env))
-    (cited 𝓤 H (HeadLine 𝓤 H (𝓖 .A) (𝓜 .mem) (𝓡 .run)) 𝓜 𝓡 code.env #grammar·line·head-line head-def.routine code.calls-grammar·line·head-line (head-thm.met 𝓤 H 𝓜 𝓖 𝓡)))
+    (cited 𝓤 H (LineAt 𝓤 H (𝓖 .A) (𝓜 .mem) (𝓡 .run)) 𝓜 𝓡 code.env #grammar·reader·line-at at-def.routine code.calls-grammar·reader·line-at (at-thm.met 𝓤 H 𝓜 𝓖 𝓡)))

@@ -1,10 +1,10 @@
--- `grammar::rows::separator_of` meets its contract: each return rewrites by the facts on its way.
+-- `grammar::row::separator_of` meets its contract: each return rewrites by the facts on its way.
 -- Assumes nothing.
 use borrow.Author.Needs.{needs}
 use borrow.Author.Tests.{eq-eqb, ne-eqb}
 use Rattle.grammar.specs.Grammar.{separator}
-use Rattle.grammar.proofs.rows.separator_of.Statement.{statement}
-use Rattle.grammar.proofs.rows.separator_of.Tie as tie
+use Rattle.grammar.proofs.row.separator_of.Statement.{statement}
+use Rattle.grammar.proofs.row.separator_of.Tie as tie
 
 returns : tie.Need-returns
 unfolding separator

@@ -1,4 +1,4 @@
--- `grammar::rows::put_floats` meets its contract. The loop's invariant: the first i floats are written. The measure is what is left. Assumes nothing.
+-- `grammar::row::put_floats` meets its contract. The loop's invariant: the first i floats are written. The measure is what is left. Assumes nothing.
 use mathlib.Core.Path.{_≡_, refl, sym, ap, _∙_}
 use mathlib.Core.List.{List}
 use Prim.Native.Nat.{ℕ, _+_, _*_, _-_, _≤_, _<_}
@@ -13,8 +13,8 @@ use lib.Seq.{paste, paste-zero, paste-suc}
 use Rattle.limits.proofs.Lists.{paste-over}
 use Rattle.grammar.specs.Grammar.{floatSize, floatAt, floatsAt}
 use Rattle.grammar.proofs.Floats.{length-floats, floats-at}
-use Rattle.grammar.proofs.rows.put_floats.Statement.{statement}
-use Rattle.grammar.proofs.rows.put_floats.Tie as tie
+use Rattle.grammar.proofs.row.put_floats.Statement.{statement}
+use Rattle.grammar.proofs.row.put_floats.Tie as tie
 
 abbrev Inv-loop : tie.InvT-loop
 Inv-loop s at n out₀ to i₀ out i = (i ≤ n) × (out ≡ paste out₀ to (floatsAt s at n) i) × (length out ≡ length out₀)

@@ -1,9 +1,9 @@
--- `grammar::rows::float_at` meets its contract: each return rewrites by the facts on its way.
+-- `grammar::row::float_at` meets its contract: each return rewrites by the facts on its way.
 -- Assumes nothing.
 use borrow.Author.Needs.{needs}
 use Rattle.grammar.specs.Grammar.{floatAt}
-use Rattle.grammar.proofs.rows.float_at.Statement.{statement}
-use Rattle.grammar.proofs.rows.float_at.Tie as tie
+use Rattle.grammar.proofs.row.float_at.Statement.{statement}
+use Rattle.grammar.proofs.row.float_at.Tie as tie
 
 returns : tie.Need-returns
 unfolding floatAt

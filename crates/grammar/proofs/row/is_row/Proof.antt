@@ -1,9 +1,9 @@
--- `grammar::rows::is_row` meets its contract: each return rewrites by the facts on its way.
+-- `grammar::row::is_row` meets its contract: each return rewrites by the facts on its way.
 -- Assumes nothing.
 use borrow.Author.Needs.{needs}
 use Rattle.grammar.specs.Grammar.{isRow}
-use Rattle.grammar.proofs.rows.is_row.Statement.{statement}
-use Rattle.grammar.proofs.rows.is_row.Tie as tie
+use Rattle.grammar.proofs.row.is_row.Statement.{statement}
+use Rattle.grammar.proofs.row.is_row.Tie as tie
 
 returns : tie.Need-returns
 unfolding isRow

@@ -1,4 +1,4 @@
--- `grammar::rows::is_floats` meets its contract. The loop's invariant: the first i floats stand there with what is behind them. The measure is what is left. Assumes nothing.
+-- `grammar::row::is_floats` meets its contract. The loop's invariant: the first i floats stand there with what is behind them. The measure is what is left. Assumes nothing.
 use mathlib.Core.Path.{_≡_, refl, sym, ap₂, subst, _∙_}
 use mathlib.Core.Bool.{Bool, true, _&&_}
 use mathlib.Core.List.{List}
@@ -11,8 +11,8 @@ use denote.Ref.{now}
 use Rattle.text.specs.Bytes.{allBelow, byteIs, isWord}
 use Rattle.grammar.specs.Grammar.{floatSize, separator, isFloats}
 use Rattle.text.proofs.Below.{all-next, all-fails}
-use Rattle.grammar.proofs.rows.is_floats.Statement.{statement}
-use Rattle.grammar.proofs.rows.is_floats.Tie as tie
+use Rattle.grammar.proofs.row.is_floats.Statement.{statement}
+use Rattle.grammar.proofs.row.is_floats.Tie as tie
 
 -- float j stands there
 abbrev P : List ℕ → ℕ → ℕ → ℕ → Bool
