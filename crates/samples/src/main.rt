@@ -40,9 +40,11 @@ fn run_refused_curves() {
     run(b"refused_1.sheet");
     run(b"refused_3.sheet");
     run(b"refused_4.sheet");
+    run(b"refused_4_before_5.sheet");
     run(b"split11.sheet");
     run(b"refused_6.sheet");
     run(b"refused_7.sheet");
+    run(b"refused_7_wide.sheet");
 }
 
 // A wrong line of each kind.
