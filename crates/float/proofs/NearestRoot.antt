@@ -23,12 +23,6 @@ use Rattle.float.proofs.Shapes.{Shape, shape-root, shape-normal, shape-
 regroup : (y j : ℕ) → y * 4 ^ suc j ≡ 4 * (y * 2 ^ j * 2 ^ j)
 regroup y j = ap (λ (x : ℕ). y * x) (pow-suc 4 j ∙ ap (λ (x : ℕ). x * 4) (four-pow j)) ∙ simp (mul-assoc, mul-comm, mul-left-comm)
 
-scaled-lt : (x y j : ℕ) → x < y → 4 * (x * 2 ^ j * 2 ^ j) < 4 * (y * 2 ^ j * 2 ^ j)
-scaled-lt x y j l = four (x * 2 ^ j * 2 ^ j) (y * 2 ^ j * 2 ^ j) (mul-lt-mul-of-pos-right (mul-lt-mul-of-pos-right l (pow-pos j)) (pow-pos j))
-  where
-    four : (a b : ℕ) → a < b → 4 * a < 4 * b
-    four a b h = omega arith
-
 module _ (f : Format) (m t : ℕ) (lo : hid f ≤ m) (hi : m < 2 ^ prec f) (L : raised f ≤ t) (H : t < low f + 2 * emax f) where
   abbrev c : ℕ
   c = radicand f m t
@@ -45,7 +39,7 @@ module _ (f : Format) (m t : ℕ) (lo : hid f ≤ m) (hi : m < 2 ^ prec f) (L : 
   abbrev j : ℕ
   j = k - 1
 
-  -- 4 * m * 2 ^ t is c units of 4 ^ places
+  -- 4 * m * 2 ^ t is c units of 4 ^ dropped
   whole : c * 4 ^ k ≡ 4 * (m * 2 ^ t)
   whole = ap (λ (x : ℕ). c * 4 ^ x) (sym (one-more f m t lo hi L H)) ∙ regroup c j ∙ ap (λ (x : ℕ). 4 * x) (parts f m t lo hi L H)
 

@@ -105,12 +105,12 @@ module _ (f : Format) (c j : ℕ) (even : c % 2 ≡ 0) (lo : 2 ^ prec f * 2 ^ pr
       ap (λ (x : ℕ). ofBits f (pattern f false (suc j * hid f + x))) halved
       ∙ built f false (isqrt n) (2 ^ low f) (isqrt n) (2 ^ suc j) (suc j) (pow-pos (low f)) (pow-pos (suc j)) (mul-assoc (isqrt n) (2 ^ low f) (2 ^ suc j)) fine (λ _. lead)
 
--- ---- m * 2 ^ t, for an m of prec digits: c * 4 ^ (places - 1), where the parity of t - prec says whether c has 2 * prec + 2 digits or one less
+-- ---- m * 2 ^ t, for an m of prec digits: it is c * 4 ^ (dropped - 1), where the parity of t - prec says whether c, the radicand, has 2 * prec + 2 digits or one less
 
 abbrev pub radicand : Format → ℕ → ℕ → ℕ
 radicand f m t = m * 2 ^ (prec f + 2 - (t + prec f) % 2)
 
--- how many digits of the root are dropped, in units of the least value
+-- how many digits of the root are dropped: its last one counts 2 ^ dropped least values
 abbrev pub dropped : Format → ℕ → ℕ
 dropped f t = (t + 1 - prec f) / 2
 
@@ -122,7 +122,7 @@ rootDigits f m t = (isqrt (radicand f m t) + 1) / 2
 pub radicand-four : (f : Format) (m t : ℕ) → 4 * (m * 2 ^ (prec f - (t + prec f) % 2)) ≡ radicand f m t
 radicand-four f m t = let i = prec f - (t + prec f) % 2 in mul-comm 4 (m * 2 ^ i) ∙ join m i 2 ∙ ap (λ (x : ℕ). m * 2 ^ x) (omega (arith, two f))
 
--- the exponents go down so far that there is room below the digits of a root of the least value
+-- the exponents go so far down that the root of even the least value has digits to drop, more of them than it keeps
 deep : (f : Format) → 3 * prec f + 8 ≤ emax f
 deep binary32 = lit≤ tt
 deep binary64 = lit≤ tt
@@ -135,7 +135,7 @@ under-square (suc y) h =
     let e : y * (suc y * 4) ≡ (y * y + y) * 4 = sym (mul-assoc y (suc y) 4) ∙ ap (λ (x : ℕ). x * 4) (mul-suc y y) in
     rw (a, b) (omega (arith, square-suc (2 * y), double y))
 
--- t is that of a pattern below the raised infinity
+-- t is that of a pattern whose field is raised by prec, below the infinity
 module _ (f : Format) (m t : ℕ) (lo : hid f ≤ m) (hi : m < 2 ^ prec f) (L : raised f ≤ t) (H : t < low f + 2 * emax f) where
   abbrev c : ℕ
   c = radicand f m t
@@ -155,7 +155,7 @@ module _ (f : Format) (m t : ℕ) (lo : hid f ≤ m) (hi : m < 2 ^ prec f) (L : 
       le-trans (le-of-eq (ap (λ (x : ℕ). x * z) (twice-hid f ∙ mul-comm 2 (hid f)) ∙ mul-assoc (hid f) 2 z ∙ ap (λ (x : ℕ). hid f * x) (mul-comm 2 z ∙ sym (pow-add 2 (prec f) 1))))
       (mul-le-mul lo (pow-mono {i = prec f + 1} {j = prec f + 2 - (t + prec f) % 2} (omega arith)))
 
-  pub radicand-lt : c < (2 * 2 ^ prec f - 1) * (2 * 2 ^ prec f - 1)
+  radicand-lt : c < (2 * 2 ^ prec f - 1) * (2 * 2 ^ prec f - 1)
   radicand-lt =
       lt-of-le-of-lt (mul-le-mul {n₂ = 2 ^ prec f - 1} (omega arith) (pow-mono {i = prec f + 2 - (t + prec f) % 2} {j = prec f + 2} (omega arith)))
       (subst (λ (x : ℕ). (2 ^ prec f - 1) * x < (2 * 2 ^ prec f - 1) * (2 * 2 ^ prec f - 1)) (sym (pow-add 2 (prec f) 2)) (under-square (2 ^ prec f) (pow-pos (prec f))))

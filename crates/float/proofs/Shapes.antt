@@ -48,7 +48,7 @@ root-negative f (fin true (suc m) e) a h A = refl
 
 -- ---- the two shapes
 
--- m has prec digits, t is that of a raised pattern below the raised infinity, and v is a least values
+-- m has prec digits, t is that of a pattern whose field is raised by prec, below the infinity, and v is a least values
 abbrev pub Shape : Format → Float → ℕ → ℕ → Type 0
 Shape f v m t = (hid f ≤ m) × (m < 2 ^ prec f) × (raised f ≤ t) × (t < low f + 2 * emax f) × ((a : ℕ) × (0 < a) × HasValue v false a (2 ^ low f) × (a * 2 ^ low f ≡ m * 2 ^ t))
 

@@ -1,4 +1,4 @@
--- The word of the contract of `narrow`. Definitions only.
+-- The word of the contract of `narrow`, for any format, and for binary32. Definitions only.
 use Prim.Native.Nat.{ℕ, _*_}
 use lib.Ieee.{Float, nan, inf, fin, Format, binary32, up, down, round}
 

@@ -1,4 +1,4 @@
--- The words of the contract of `sqrt`. Definitions only. That `sqrtOf x` is the value nearest to the root, and that no other value is, are the laws of `proofs/SqrtCorrect.antt`.
+-- The words of the contract of `sqrt`, for any format, and for binary32. Definitions only. That `sqrtOf x` is the value nearest to the root, and that no other value is, are the laws of `proofs/SqrtCorrect.antt`.
 use Prim.Native.Nat.{ℕ, zero, suc, _+_, _-_, _*_, _/_, _%_, _^_, _≤_, _<_}
 use mathlib.Core.Bool.{true, false, cond}
 use lib.Dec.{T, leb}
@@ -19,7 +19,7 @@ isqrt n = rootIn (size n) n
 unfoldable pub rootAt : Format → ℕ → Float
 rootAt f n = round f false (isqrt n) (2 ^ low f)
 
--- The root of x, a value of the format. Zeros give themselves, and what is below zero gives a NaN. m * 2 ^ e is a whole number of 1 / 4 ^ low for every value of the format, so the quotient is exact.
+-- The root of x, a value of the format. Zeros give themselves, and what is below zero gives a NaN. m * 2 ^ e is a whole number of 1 / 4 ^ low for every value of the format, so the quotient cuts nothing off (`radicand-exact`).
 unfoldable pub sqrtAt : Format → Float → Float
 sqrtAt f nan = nan
 sqrtAt f (inf true) = nan
