@@ -1,2 +1,3 @@
+pub mod Lines
 pub mod Sheet
 pub mod Written
