@@ -27,7 +27,7 @@ far = 1000000
 abbrev pub mostBytes : ℕ
 mostBytes = 65536
 
--- more points than so many bytes hold
+-- more points than so many bytes hold (`points-fit` in sheet)
 abbrev pub roomPoints : ℕ
 roomPoints = 2048
 

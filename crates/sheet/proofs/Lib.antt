@@ -1,3 +1,6 @@
+pub mod LinesCounted
+pub mod OneLine
+pub mod PointsFit
 pub mod ReadBack
 pub mod ReplySmall
 pub mod ReplyWithin

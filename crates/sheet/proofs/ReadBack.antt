@@ -18,7 +18,7 @@ use Rattle.text.proofs.Places.{Reads, reads-start}
 use Rattle.grammar.specs.Grammar.{rowSize, pointKey, rayKey, roomPoints, mostBytes}
 use Rattle.geometry.specs.Point.{pointFloats}
 use Rattle.grammar.specs.Head.{headOf}
-use Rattle.sheet.specs.Sheet.{mostRays, raysFrom, raysRead, pointCount, raysAt, rayCount, isWhole, pointsOf, raysOf, noRays, paramsIn, withCurves, sheetWithin, sheetOf, listWithin, listOf}
+use Rattle.sheet.specs.Sheet.{mostRays, raysFrom, raysRead, pointCount, raysAt, rayCount, rightEnd, isWhole, pointsOf, raysOf, noRays, paramsIn, withCurves, sheetWithin, sheetOf, listWithin, listOf}
 use Rattle.sheet.specs.Written.{Text, IsText, IsWord, IsRowOf, basisOf, typeOf, lineOf, headText, commas, rowsText, textOf, rowsFloats, headAt, headWritten}
 use Rattle.grammar.specs.declared.head.Cursor.{Cursor}
 use Rattle.grammar.specs.declared.head.Head.{Head}
@@ -42,7 +42,7 @@ rows-whole :
     → (c : Cursor)
     → c ≡ headAt t at .cursor
     → (pointCount l c ≡ length (t .points)) × (rayCount l c ≡ length (t .rays)) × (isWhole l c ≡ true) × (pointsOf l c ≡ rowsFloats (t .points)) × (raysOf l c ≡ rowsFloats (t .rays))
-unfolding pointCount raysAt raysFrom rayCount isWhole pointsOf raysRead raysOf rowSize ascii
+unfolding pointCount raysAt raysFrom rayCount rightEnd isWhole pointsOf raysRead raysOf rowSize ascii
 rows-whole l at t i h c q =
     let x = rows-back l at pointKey pointFloats (t .points) (rowsText rayKey (t .rays)) h (i .points) (lit< tt) in
     let p = rows-count l at pointKey pointFloats (t .points) roomPoints (x .0) (i .most-points) (ray-no-point l _ (t .rays) (x .2)) in

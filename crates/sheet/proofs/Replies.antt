@@ -2,8 +2,7 @@
 use mathlib.Core.Bool.{Bool, true, false, cond, _&&_}
 use mathlib.Core.Path.{_≡_, sym, ap, ap₂, _∙_}
 use mathlib.Core.List.{List}
-use Prim.Native.Nat.{ℕ, zero, suc, _+_, _*_, _≤_}
-use native.Mathlib.Nat.{le-refl}
+use Prim.Native.Nat.{ℕ, _+_, _*_, _≤_}
 use native.Mathlib.Omega.{arith}
 use lib.Dec.{ltb, eqb}
 use lib.Ieee.{Float, binary32, ofBits}
@@ -14,14 +13,15 @@ use Rattle.geometry.specs.Ray.{rayFloats}
 use Rattle.limits.specs.List.{over, upTo}
 use Rattle.create.specs.declared.create.Created.{Created}
 use Rattle.limits.proofs.Lists.{over-nil, over-length, length-upTo}
-use Rattle.grammar.specs.Grammar.{rowSize, pointKey, rayKey, runBelow, rowsFrom, floatsFrom, roomPoints, mostBytes}
+use Rattle.grammar.specs.Grammar.{rowSize, pointKey, rayKey, rowsFrom, floatsFrom, roomPoints, mostBytes}
 use Rattle.geometry.specs.Point.{pointFloats}
-use Rattle.sheet.specs.Sheet.{mostRays, raysFrom, raysRead, pointCount, pointsOf, raysAt, rayCount, raysOf, linesRight, isWhole, noRays, refusedWith, paramsIn, withCurves, sheetWithin, listWithin, sheetOf, listOf}
+use Rattle.sheet.specs.Sheet.{mostRays, raysFrom, raysRead, pointCount, pointsOf, raysAt, rayCount, raysOf, linesRight, rightEnd, isWhole, noRays, refusedWith, paramsIn, withCurves, sheetWithin, listWithin, sheetOf, listOf}
 use Rattle.grammar.specs.Head.{headOf}
 use Rattle.grammar.specs.declared.head.Cursor.{Cursor}
 use Rattle.grammar.specs.declared.head.Head.{Head}
 use Rattle.sheet.specs.declared.Sheet.{Sheet}
 use Rattle.grammar.proofs.Floats.{length-floats}
+use Rattle.grammar.proofs.Runs.{run-most}
 
 -- ---- points and rays
 
@@ -57,15 +57,6 @@ made h n rays points list list′ w0 w1 created room e f g = (
 )
 
 -- ---- counts are small
-
-run-most : (n : ℕ) (P : ℕ → Bool) → runBelow n P ≤ n
-unfolding runBelow
-run-most zero P = le-refl 0
-run-most (suc n) P = go (eqb (runBelow n P) n && P n) (run-most n P)
-  where
-    go : (b : Bool) → runBelow n P ≤ n → cond b (suc n) (runBelow n P) ≤ suc n
-    go true h = le-refl (suc n)
-    go false h = omega arith
 
 cond-most : (b : Bool) (x most : ℕ) → x ≤ most → cond b x 0 ≤ most
 cond-most true x most h = h
@@ -103,7 +94,7 @@ module _ (l : List ℕ) (h : Head) (p n : ℕ) (rays : List Float) (e : h ≡ he
     (g : (n ≡ raysFrom l (h .cursor .at + p * rowSize pointKey pointFloats) p) × (rays ≡ over noRays 0 (raysRead l (h .cursor .at + p * rowSize pointKey pointFloats) p))) where
   -- the test
   whole-is : isWhole l (headOf l .cursor) ≡ (ltb 0 p && eqb (h .cursor .at + p * rowSize pointKey pointFloats + n * rowSize rayKey rayFloats) (length l))
-  unfolding isWhole raysAt rayCount
+  unfolding isWhole rightEnd raysAt rayCount
   whole-is = rw (← e, ← f, ← g .0)
 
   pub within-whole : (list list′ points : List Float) (room : ℕ) (r : Sheet) → (ltb 0 p && eqb (h .cursor .at + p * rowSize pointKey pointFloats + n * rowSize rayKey rayFloats) (length l)) ≡ true → points ≡ pointsOf l (h .cursor)

@@ -1,3 +1,4 @@
 pub mod Answer
+pub mod Lines
 pub mod Sheet
 pub mod Written

@@ -56,9 +56,13 @@ module _ (l : List ℕ) (c : Cursor) where
   unfoldable pub linesRight : ℕ
   linesRight = c .lines + pointCount + rayCount
 
+  -- the place behind them, where the next line starts
+  unfoldable pub rightEnd : ℕ
+  rightEnd = raysAt + rayCount * rowSize rayKey rayFloats
+
   -- nothing is missing, and nothing follows
   unfoldable pub isWhole : Bool
-  isWhole = ltb 0 pointCount && eqb (raysAt + rayCount * rowSize rayKey rayFloats) (length l)
+  isWhole = ltb 0 pointCount && eqb rightEnd (length l)
 
 -- ---- the reply
 
