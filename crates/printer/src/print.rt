@@ -1,9 +1,9 @@
 // The report of a sheet, written block by block.
 use crate::explain::explain;
+use blocks::ROOM;
+use blocks::line_count;
+use blocks::put_block;
 use libc::STDOUT_FILENO;
-use report::ROOM;
-use report::line_count;
-use report::put_block;
 use sheet::Reply;
 
 // The one place where the report is written.
@@ -30,7 +30,8 @@ pub fn print_sheet(bytes: &[u8]) {
     let mut next = 0usize;
     while next < count {
         let block = put_block(&mut out, &rays, &list, reply, next);
-        write(&out[..block.end]);
+        let end = block.end;
+        write(&out[..end]);
         next = block.next;
     }
     explain_refusal(reply);

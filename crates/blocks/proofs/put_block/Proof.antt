@@ -1,4 +1,4 @@
--- `report::block::put_block` meets its contract. The loop's invariant: what is put so far is a block. The measure is how many lines are left. Assumes nothing.
+-- `blocks::put_block` meets its contract. The loop's invariant: what is put so far is a block. The measure is how many lines are left. Assumes nothing.
 use mathlib.Core.Bool.{true, false, _&&_, and-eq-true-iff, true≢false}
 use mathlib.Core.List.{List}
 use mathlib.Core.Logic.{inl, inr}
@@ -16,10 +16,11 @@ use Rattle.limits.specs.List.{over}
 use Rattle.limits.proofs.Lists.{over-nil, over-append}
 use Rattle.sheet.specs.declared.Reply.{Reply}
 use Rattle.text.specs.Put.{fitting, Put}
-use Rattle.report.specs.Blocks.{longest, Small, lineCount, lineText, linesText, IsBlock}
-use Rattle.report.proofs.Lines.{line-most, lines-few, no-lines, lines-next}
-use Rattle.report.proofs.block.put_block.Statement.{statement}
-use Rattle.report.proofs.block.put_block.Tie as tie
+use Rattle.report.specs.Printed.{longest}
+use Rattle.blocks.specs.Blocks.{Small, lineCount, lineText, linesText, IsBlock}
+use Rattle.blocks.proofs.Lines.{line-most, lines-few, no-lines, lines-next}
+use Rattle.blocks.proofs.put_block.Statement.{statement}
+use Rattle.blocks.proofs.put_block.Tie as tie
 
 abbrev Inv-loop : tie.InvT-loop
 Inv-loop out₀ rays list reply from count next₀ end₀ out next end =

@@ -12,10 +12,10 @@ use Rattle.sheet.specs.declared.Reply.{Reply}
 use Rattle.sheet.specs.declared.Reply.the-variants.{Accepted, Refused}
 use Rattle.sheet.proofs.ReplySmall.{curves-most, number-most}
 use Rattle.sheet.proofs.ReplyWithin.{reply-within}
-use Rattle.report.specs.declared.block.Block.{Block}
-use Rattle.report.specs.Report.{roomFloats, reportOf}
-use Rattle.report.specs.Blocks.{Small, lineCount, linesText, IsBlock}
-use Rattle.report.proofs.Lines.{no-lines, lines-append, all-lines}
+use Rattle.blocks.specs.declared.Block.{Block}
+use Rattle.blocks.specs.Report.{roomFloats, reportOf}
+use Rattle.blocks.specs.Blocks.{Small, lineCount, linesText, IsBlock}
+use Rattle.blocks.proofs.Lines.{no-lines, lines-append, all-lines}
 
 -- the numbers of a sheet's reply are as small as the blocks ask
 pub reply-small : (l : List ℕ) (room : ℕ) → Small (sheetOf l room .reply)

@@ -6,25 +6,23 @@ ghost use lib.ListN.{length};
 ghost use Rattle.text.specs.Put.{Put};
 ghost use Rattle.create.specs.Create.{mostCurves};
 ghost use Rattle.sheet.specs.Sheet.{mostRays};
-ghost use Rattle.report.specs.Report.{metText};
-ghost use Rattle.report.specs.Blocks.{longest, Small, lineCount, lineText, IsBlock};
-use crate::line::put_answer;
-use crate::line::put_pieces;
-use crate::line::put_refused_sheet;
+ghost use Rattle.report.specs.Printed.{longest};
+ghost use Rattle.blocks.specs.Report.{metText};
+ghost use Rattle.blocks.specs.Blocks.{Small, lineCount, lineText, IsBlock};
 use create::MOST_CURVES;
 use curve::FLOATS;
 use geometry::RAY_FLOATS;
 use geometry::ray_from;
 use matrix::Matrix4x4;
+use report::LONGEST;
+use report::put_answer;
+use report::put_pieces;
+use report::put_refused_sheet;
 use sheet::RAYS_FLOATS;
 use sheet::Reply;
 
 // The floats of the most curves.
 pub const ROOM: usize = MOST_CURVES * FLOATS;
-
-// No line has more bytes: its keys and line feed have 36 bytes, three numbers up to ten digits each, and three floats
-// eight.
-const LONGEST: usize = 90;
 
 // The line behind those that were put, and the place behind their bytes.
 pub struct Block {

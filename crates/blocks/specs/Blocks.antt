@@ -11,13 +11,9 @@ use Rattle.create.specs.Create.{mostCurves}
 use Rattle.sheet.specs.Sheet.{mostRays, lastLine}
 use Rattle.sheet.specs.declared.Reply.{Reply}
 use Rattle.sheet.specs.declared.Reply.the-variants.{Accepted, Refused}
-use Rattle.report.specs.declared.block.Block.{Block}
+use Rattle.blocks.specs.declared.Block.{Block}
 use Rattle.report.specs.Printed.{piecesText, refusedSheetText}
-use Rattle.report.specs.Report.{metText}
-
--- no line has more bytes
-abbrev pub longest : ℕ
-longest = 90
+use Rattle.blocks.specs.Report.{metText}
 
 -- how large the numbers of a sheet's reply are
 abbrev pub Small : Reply → Type 0
