@@ -1,9 +1,9 @@
 // The report of a sheet, written block by block.
 use crate::explain::explain;
+use blocks::ROOM;
+use blocks::is_done;
+use blocks::put_block;
 use libc::STDOUT_FILENO;
-use report::ROOM;
-use report::line_count;
-use report::put_block;
 use sheet::Reply;
 
 // The one place where the report is written.
@@ -22,16 +22,14 @@ fn explain_refusal(reply: Reply) {
 // Prints the report of a sheet's bytes.
 pub fn print_sheet(bytes: &[u8]) {
     let mut list = [0.0f32; ROOM];
-    let read = sheet::read_sheet(bytes, &mut list);
-    let rays = read.rays;
-    let reply = read.reply;
-    let count = line_count(reply);
     let mut out = io::large_buffer();
-    let mut next = 0usize;
-    while next < count {
-        let block = put_block(&mut out, &rays, &list, reply, next);
-        write(&out[..block.end]);
-        next = block.next;
+    let mut report = blocks::open(bytes, &mut list);
+    while !is_done(report) {
+        let block = put_block(&mut out, &list, report);
+        let end = block.end;
+        write(&out[..end]);
+        report = block.rest;
     }
+    let reply = report.reply;
     explain_refusal(reply);
 }

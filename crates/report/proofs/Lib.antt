@@ -1,3 +1,1 @@
-pub mod Blocks
-pub mod Lines
-mod Longest
+pub mod Longest

@@ -45,3 +45,7 @@ answerText ray piece (Refused number) = refusedText ray piece number
 -- a refused sheet
 unfoldable pub refusedSheetText : ℕ → ℕ → List ℕ
 refusedSheetText number line = numberText (ascii "refused=") number ++ numberText (ascii " line=") line ++ ascii "\n"
+
+-- no line has more bytes: its keys and line feed have 36 bytes, three numbers up to ten digits each, and three floats eight
+abbrev pub longest : ℕ
+longest = 90

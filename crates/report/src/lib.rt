@@ -1,8 +1,7 @@
-// What is printed of a sheet: where each ray meets each curve, or why the sheet is refused.
-mod block;
+// The lines that are printed of a sheet: where a ray meets a curve, or why the sheet is refused.
 mod line;
 
-pub use block::Block;
-pub use block::ROOM;
-pub use block::line_count;
-pub use block::put_block;
+pub use line::LONGEST;
+pub use line::put_answer;
+pub use line::put_pieces;
+pub use line::put_refused_sheet;

@@ -7,6 +7,9 @@ use text::put_decimal;
 use text::put_float;
 use text::put_word;
 
+// No line has more bytes (`longest`).
+pub const LONGEST: usize = 90;
+
 // A key and a number.
 fn put_number(out: &mut [u8], at: usize, key: &[u8], n: u32) -> usize
     ensures { λ r. ⌜ Put (now (out .entry)) at (numberText (now (key .entry)) n) (now (out .exit)) r ⌝ }

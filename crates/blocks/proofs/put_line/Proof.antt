@@ -1,4 +1,4 @@
--- `report::block::put_line` meets its contract: each arm puts its line. Assumes nothing.
+-- `blocks::put_line` meets its contract: each arm puts its line. Assumes nothing.
 use mathlib.Core.Bool.{Bool}
 use mathlib.Core.List.{List}
 use mathlib.Core.Path.{_≡_, subst}
@@ -10,12 +10,12 @@ use lib.Ieee.{Float}
 use Rattle.sheet.specs.declared.Reply.{Reply}
 use Rattle.sheet.specs.declared.Reply.the-variants.{Accepted, Refused}
 use Rattle.text.proofs.Puts.{renamed}
 use Rattle.report.specs.Printed.{piecesText, refusedSheetText}
-use Rattle.report.specs.Report.{metText}
-use Rattle.report.specs.Blocks.{Small, lineCount, lineText}
-use Rattle.report.proofs.Lines.{placed}
-use Rattle.report.proofs.block.put_line.Statement.{statement}
-use Rattle.report.proofs.block.put_line.Tie as tie
+use Rattle.blocks.specs.Report.{metText}
+use Rattle.blocks.specs.Blocks.{Small, lineCount, lineText}
+use Rattle.blocks.proofs.Lines.{placed}
+use Rattle.blocks.proofs.put_line.Statement.{statement}
+use Rattle.blocks.proofs.put_line.Tie as tie
 
 -- which ray and which curve
 at : (c : tie.After-put-met-arg) →

@@ -1,13 +1,13 @@
--- `report::block::line_count` meets its contract: there are few lines. Assumes nothing.
+-- `blocks::line_count` meets its contract: there are few lines. Assumes nothing.
 use mathlib.Core.Path.{sym, ap, subst}
 use Prim.Native.Nat.{_≤_}
 use native.Mathlib.Omega.{arith}
 use borrow.Author.Needs.{needs}
 use Rattle.sheet.specs.declared.Reply.{Reply}
-use Rattle.report.specs.Blocks.{lineCount}
-use Rattle.report.proofs.Lines.{lines-few}
-use Rattle.report.proofs.block.line_count.Statement.{statement}
-use Rattle.report.proofs.block.line_count.Tie as tie
+use Rattle.blocks.specs.Blocks.{lineCount}
+use Rattle.blocks.proofs.Lines.{lines-few}
+use Rattle.blocks.proofs.line_count.Statement.{statement}
+use Rattle.blocks.proofs.line_count.Tie as tie
 
 mul-result : tie.Need-mul-result
 mul-result c =

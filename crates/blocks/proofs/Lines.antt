@@ -12,10 +12,11 @@ use lib.ListN.{length}
 use Rattle.limits.specs.List.{upTo}
 use Rattle.sheet.specs.declared.Reply.{Reply}
 use Rattle.sheet.specs.declared.Reply.the-variants.{Accepted, Refused}
-use Rattle.report.specs.Printed.{piecesText}
-use Rattle.report.specs.Report.{metText, replyText}
-use Rattle.report.specs.Blocks.{longest, Small, lineCount, lineText, linesText}
-use Rattle.report.proofs.Longest.{pieces-most, refused-sheet-most, met-most}
+use Rattle.report.specs.Printed.{piecesText, longest}
+use Rattle.blocks.specs.Report.{metAt, metText, replyText}
+use Rattle.blocks.specs.Blocks.{Small, lineCount, lineText, linesText}
+use Rattle.blocks.proofs.Narrow.{narrow}
+use Rattle.report.proofs.Longest.{pieces-most, refused-sheet-most, answer-most}
 
 -- ---- lists in a row
 
@@ -58,7 +59,7 @@ module _ (rays list : List Float) where
     where
       go : (b : Bool) → (b ≡ false → k ≡ 0 → ⊥) → length (cond b (piecesText pieces) (metText rays list reverse ((k - 1) / pieces) ((k - 1) % pieces))) ≤ longest
       go true e = pieces-most pieces (omega arith)
-      go false e = let at = placed k n pieces (e refl) l in met-most _ _ (omega arith) (omega arith) rays list reverse
+      go false e = let at = placed k n pieces (e refl) l in answer-most _ _ (omega arith) (omega arith) (metAt rays list reverse _ _) (unfold metAt in narrow _ _ _ reverse _)
   line-most (Refused number line) k s l = refused-sheet-most number line (omega arith) (omega arith)
 
   -- ---- one behind the other

@@ -1,4 +1,4 @@
--- `report::block::put_block` meets its contract. The loop's invariant: what is put so far is a block. The measure is how many lines are left. Assumes nothing.
+-- `blocks::put_lines` meets its contract. The loop's invariant: what is put so far is a block. The measure is how many lines are left. Assumes nothing.
 use mathlib.Core.Bool.{true, false, _&&_, and-eq-true-iff, true≢false}
 use mathlib.Core.List.{List}
 use mathlib.Core.Logic.{inl, inr}
@@ -16,25 +16,26 @@ use Rattle.limits.specs.List.{over}
 use Rattle.limits.proofs.Lists.{over-nil, over-append}
 use Rattle.sheet.specs.declared.Reply.{Reply}
 use Rattle.text.specs.Put.{fitting, Put}
-use Rattle.report.specs.Blocks.{longest, Small, lineCount, lineText, linesText, IsBlock}
-use Rattle.report.proofs.Lines.{line-most, lines-few, no-lines, lines-next}
-use Rattle.report.proofs.block.put_block.Statement.{statement}
-use Rattle.report.proofs.block.put_block.Tie as tie
+use Rattle.report.specs.Printed.{longest}
+use Rattle.blocks.specs.Blocks.{Small, lineCount, lineText, linesText, LinesPut}
+use Rattle.blocks.proofs.Lines.{line-most, lines-few, no-lines, lines-next}
+use Rattle.blocks.proofs.put_lines.Statement.{statement}
+use Rattle.blocks.proofs.put_lines.Tie as tie
 
 abbrev Inv-loop : tie.InvT-loop
-Inv-loop out₀ rays list reply from count next₀ end₀ out next end =
-    (count ≡ lineCount reply) × (length out ≡ length out₀) × IsBlock rays list reply from out₀ out (record { next = next; end = end })
+Inv-loop out₀ rays list reply from count end₀ next₀ out end next =
+    (count ≡ lineCount reply) × (length out ≡ length out₀) × LinesPut rays list reply from out₀ out (record { next = next; end = end })
 
 abbrev μ-loop : tie.MeasureT-loop
-μ-loop out₀ rays list reply from count next₀ end₀ out next end = count - next
+μ-loop out₀ rays list reply from count end₀ next₀ out end next = count - next
 
 module _ (rays list : List Float) (reply : Reply) (from : ℕ) (d : List ℕ) where
-  no-block : from ≤ lineCount reply → IsBlock rays list reply from d d (record { next = from; end = 0 })
+  no-block : from ≤ lineCount reply → LinesPut rays list reply from d d (record { next = from; end = 0 })
   no-block h = let none = no-lines rays list reply from in record { not-back = omega arith; none-past = h; all-put = rw none (sym (over-nil d 0)); end-behind = rw none; end-inside = omega arith }
 
   -- one line more, where there is room
-  longer : (x y : List ℕ) (next end end′ : ℕ) → Small reply → IsBlock rays list reply from d x (record { next = next; end = end }) → length x ≡ length d → next < lineCount reply → longest ≤ length x - end
-      → Put x end (lineText rays list reply next) y end′ → IsBlock rays list reply from d y (record { next = next + 1; end = end′ })
+  longer : (x y : List ℕ) (next end end′ : ℕ) → Small reply → LinesPut rays list reply from d x (record { next = next; end = end }) → length x ≡ length d → next < lineCount reply → longest ≤ length x - end
+      → Put x end (lineText rays list reply next) y end′ → LinesPut rays list reply from d y (record { next = next + 1; end = end′ })
   unfolding fitting
   longer x y next end end′ small held long more room put =
       let s = linesText rays list reply from next in
@@ -59,7 +60,7 @@ module _ (rays list : List Float) (reply : Reply) (from : ℕ) (d : List ℕ) wh
       }
 
   -- where nothing was put there was no line or no room
-  moved : (x : List ℕ) (next end : ℕ) → IsBlock rays list reply from d x (record { next = next; end = end }) → length x ≡ length d → (ltb next (lineCount reply) && leb longest (length x - end)) ≡ false
+  moved : (x : List ℕ) (next end : ℕ) → LinesPut rays list reply from d x (record { next = next; end = end }) → length x ≡ length d → (ltb next (lineCount reply) && leb longest (length x - end)) ≡ false
       → from < lineCount reply → longest ≤ length d → from < next
   moved x next end held long test more room = elim (eq-or-lt-of-le (held .not-back)) [
     | inl e ↦
@@ -109,5 +110,5 @@ loop-again c =
 returns : tie.Need-returns Inv-loop μ-loop
 returns c = let i = c .before .loop .inv in (i .2, moved _ _ _ _ _ _ _ _ (i .2) (i .1) (rw (← i .0) (c .loop-test .left)))
 
-pub put-block-spec : {M : Type 1} → statement M
-put-block-spec = tie.close (tie.spec Inv-loop μ-loop line-count-requires loop-holds sub-loop put-line-requires add-next loop-less loop-again (λ c. search needs) returns)
+pub put-lines-spec : {M : Type 1} → statement M
+put-lines-spec = tie.close (tie.spec Inv-loop μ-loop line-count-requires loop-holds sub-loop put-line-requires add-next loop-less loop-again (λ c. search needs) returns)

@@ -1,39 +1,51 @@
-// The report of a sheet by its lines, numbered from 0, put block by block into a buffer that is lent: whole
-// lines, as long as there is room for the longest.
+// All that is printed of a sheet: its report, by lines that are numbered from 0, in blocks of whole lines that are put
+// into a buffer that is lent. Whoever writes the blocks, one behind the other, has written the report.
 ghost use mathlib.Core.Path.{_≡_};
 ghost use Prim.Native.Nat.{_≤_, _<_};
+ghost use lib.Dec.{eqb};
 ghost use lib.ListN.{length};
 ghost use Rattle.text.specs.Put.{Put};
 ghost use Rattle.create.specs.Create.{mostCurves};
 ghost use Rattle.sheet.specs.Sheet.{mostRays};
-ghost use Rattle.report.specs.Report.{metText};
-ghost use Rattle.report.specs.Blocks.{longest, Small, lineCount, lineText, IsBlock};
-use crate::line::put_answer;
-use crate::line::put_pieces;
-use crate::line::put_refused_sheet;
+ghost use Rattle.report.specs.Printed.{longest};
+ghost use Rattle.blocks.specs.Report.{metText, reportIn};
+ghost use Rattle.blocks.specs.Blocks.{Small, lineCount, lineText, LinesPut, Sound, linesLeft, restOf, IsBlock};
 use create::MOST_CURVES;
 use curve::FLOATS;
 use geometry::RAY_FLOATS;
 use geometry::ray_from;
 use matrix::Matrix4x4;
+use report::LONGEST;
+use report::put_answer;
+use report::put_pieces;
+use report::put_refused_sheet;
 use sheet::RAYS_FLOATS;
 use sheet::Reply;
 
 // The floats of the most curves.
 pub const ROOM: usize = MOST_CURVES * FLOATS;
 
-// No line has more bytes: its keys and line feed have 36 bytes, three numbers up to ten digits each, and three floats
-// eight.
-const LONGEST: usize = 90;
-
-// The line behind those that were put, and the place behind their bytes.
-pub struct Block {
+// What was read of a sheet, but for its curves, and the line of its report that is next.
+pub struct Report {
+    pub reply: Reply,
+    pub rays: [f32; RAYS_FLOATS],
     pub next: usize,
+}
+
+// The place behind a block's bytes, and what is left of the report.
+pub struct Block {
     pub end: usize,
+    pub rest: Report,
+}
+
+// The place behind the bytes of lines that were put, and the line behind them.
+struct Behind {
+    end: usize,
+    next: usize,
 }
 
 // How many lines the report of a reply has.
-pub fn line_count(reply: Reply) -> usize
+fn line_count(reply: Reply) -> usize
     requires { ⌜ Small reply ⌝ }
     ensures { λ r. ⌜ r ≡ lineCount reply ⌝ }
 {
@@ -94,24 +106,63 @@ fn put_line(
     }
 }
 
-// The lines from one on: one at least, where there is room for the longest.
-pub fn put_block(
+// The lines from one on, as long as there is room for the longest.
+fn put_lines(
     out: &mut [u8],
     rays: &[f32; RAYS_FLOATS],
     list: &[f32; ROOM],
     reply: Reply,
     from: usize,
-) -> Block
+) -> Behind
     requires { ⌜ Small reply × (from ≤ lineCount reply) ⌝ }
-    ensures { λ r. ⌜ IsBlock (now (rays .entry)) (now (list .entry)) reply from (now (out .entry)) (now (out .exit)) r ⌝ }
+    ensures { λ r. ⌜ LinesPut (now (rays .entry)) (now (list .entry)) reply from (now (out .entry)) (now (out .exit)) r ⌝ }
     ensures { λ r. ⌜ (from < lineCount reply → longest ≤ length (now (out .entry)) → from < r .next) ⌝ }
 {
     let count = line_count(reply);
-    let mut next = from;
     let mut end = 0usize;
+    let mut next = from;
     while (next < count) & (LONGEST <= out.len() - end) {
         end = put_line(out, end, rays, list, reply, next);
         next += 1;
     }
-    Block { next, end }
+    Behind { end, next }
+}
+
+// Reads a sheet, its curves into the list, and stands before the first line of its report.
+pub fn open(bytes: &[u8], list: &mut [f32; ROOM]) -> Report
+    ensures { λ r. ⌜ Sound r ⌝ }
+    ensures { λ r. ⌜ restOf (now (list .exit)) r ≡ reportIn (now (bytes .entry)) (now (list .entry)) ⌝ }
+{
+    let read = sheet::read_sheet(bytes, list);
+    let reply = read.reply;
+    let rays = read.rays;
+    Report {
+        reply,
+        rays,
+        next: 0,
+    }
+}
+
+// Whether nothing is left.
+pub fn is_done(report: Report) -> bool
+    requires { ⌜ Sound report ⌝ }
+    ensures { λ r. ⌜ r ≡ eqb (linesLeft report) 0 ⌝ }
+{
+    let reply = report.reply;
+    line_count(reply) - report.next == 0
+}
+
+// Puts the next lines into the buffer: one at least, where there is room for the longest.
+pub fn put_block(out: &mut [u8], list: &[f32; ROOM], report: Report) -> Block
+    requires { ⌜ Sound report ⌝ }
+    ensures { λ r. ⌜ IsBlock (now (list .entry)) report (now (out .entry)) (now (out .exit)) r ⌝ }
+    ensures { λ r. ⌜ (0 < linesLeft report → longest ≤ length (now (out .entry)) → linesLeft (r .rest) < linesLeft report) ⌝ }
+{
+    let reply = report.reply;
+    let rays = report.rays;
+    let from = report.next;
+    let put = put_lines(out, &rays, list, reply, from);
+    let next = put.next;
+    let rest = Report { reply, rays, next };
+    Block { end: put.end, rest }
 }

@@ -3,7 +3,7 @@ use Prim.Native.Nat.{ℕ, _*_}
 use mathlib.Core.Bool.{Bool}
 use mathlib.Core.List.{List, _++_}
 use lib.Ieee.{Float}
-use lib.ListN.{take, drop, replicate}
+use lib.ListN.{length, take, drop, replicate}
 use Rattle.float.specs.Arith.{0f}
 use Rattle.limits.specs.List.{upTo}
 use Rattle.geometry.specs.Ray.{rayFloats, rayFrom}
@@ -35,12 +35,10 @@ module _ (rays list : List Float) where
   replyText (Accepted pieces reverse n) = piecesText pieces ++ upTo (λ i. upTo (metText reverse i) pieces) n
   replyText (Refused number line) = refusedSheetText number line
 
--- the floats that the program lends for the curves: as many as the most curves have, all 0
-abbrev pub roomFloats : ℕ
-roomFloats = mostCurves * floats
+-- what is printed for the bytes of a sheet, where its curves go into a list
+unfoldable pub reportIn : List ℕ → List Float → List ℕ
+reportIn bytes list = let read = sheetOf bytes (length list) in replyText (read .rays) (listOf bytes list) (read .reply)
 
+-- the program's list: as many floats as the most curves have, all 0
 unfoldable pub reportOf : List ℕ → List ℕ
-reportOf bytes =
-    let read = sheetOf bytes roomFloats in
-    let list = listOf bytes (replicate roomFloats 0f) in
-    replyText (read .rays) list (read .reply)
+reportOf bytes = reportIn bytes (replicate (mostCurves * floats) 0f)

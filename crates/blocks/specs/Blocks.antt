@@ -1,28 +1,28 @@
--- The report by its lines, numbered from 0, and in blocks of whole lines. Definitions only.
+-- The report by its lines, numbered from 0, and in blocks. Definitions only.
 use Prim.Native.Nat.{ℕ, _+_, _-_, _*_, _/_, _%_, _≤_}
 use mathlib.Core.Bool.{cond}
-use mathlib.Core.List.{List}
+use mathlib.Core.List.{List, _++_}
 use mathlib.Core.Path.{_≡_}
 use lib.Dec.{eqb}
 use lib.Ieee.{Float}
-use lib.ListN.{length}
+use lib.ListN.{length, take, drop}
 use Rattle.limits.specs.List.{over, upTo}
 use Rattle.create.specs.Create.{mostCurves}
 use Rattle.sheet.specs.Sheet.{mostRays, lastLine}
 use Rattle.sheet.specs.declared.Reply.{Reply}
 use Rattle.sheet.specs.declared.Reply.the-variants.{Accepted, Refused}
-use Rattle.report.specs.declared.block.Block.{Block}
 use Rattle.report.specs.Printed.{piecesText, refusedSheetText}
-use Rattle.report.specs.Report.{metText}
-
--- no line has more bytes
-abbrev pub longest : ℕ
-longest = 90
+use Rattle.blocks.specs.declared.Behind.{Behind}
+use Rattle.blocks.specs.declared.Block.{Block}
+use Rattle.blocks.specs.declared.Report.{Report}
+use Rattle.blocks.specs.Report.{metText}
 
 -- how large the numbers of a sheet's reply are
 abbrev pub Small : Reply → Type 0
 Small (Accepted pieces reverse n) = (pieces ≤ mostCurves) × (n ≤ mostRays)
 Small (Refused number line) = (number ≤ 18) × (line ≤ lastLine)
+
+-- ---- lines
 
 abbrev pub lineCount : Reply → ℕ
 lineCount (Accepted pieces reverse n) = 1 + n * pieces
@@ -38,10 +38,30 @@ module _ (rays list : List Float) where
   unfoldable pub linesText : Reply → ℕ → ℕ → List ℕ
   linesText reply from to = upTo (λ i. lineText reply (from + i)) (to - from)
 
-  -- a block that starts with line `from`: whole lines, none past the last, put into the list d from its start on; then the list is x
-  pub record IsBlock (reply : Reply) (from : ℕ) (d x : List ℕ) (b : Block) : Type 0 where
+  -- lines from one on are put into the list d from its start on: then it is x
+  pub record LinesPut (reply : Reply) (from : ℕ) (d x : List ℕ) (b : Behind) : Type 0 where
     pub not-back : from ≤ b .next
     pub none-past : b .next ≤ lineCount reply
     pub all-put : x ≡ over d 0 (linesText reply from (b .next))
     pub end-behind : b .end ≡ length (linesText reply from (b .next))
     pub end-inside : b .end ≤ length d
+
+-- ---- blocks
+
+abbrev pub Sound : Report → Type 0
+Sound r = Small (r .reply) × (r .next ≤ lineCount (r .reply))
+
+unfoldable pub linesLeft : Report → ℕ
+linesLeft r = lineCount (r .reply) - r .next
+
+module _ (list : List Float) where
+  -- what is left to print
+  unfoldable pub restOf : Report → List ℕ
+  restOf r = linesText (r .rays) list (r .reply) (r .next) (lineCount (r .reply))
+
+  -- a block is the start of what is left, and the rest is left behind it; the buffer d keeps the bytes behind its end
+  pub record IsBlock (r : Report) (d x : List ℕ) (b : Block) : Type 0 where
+    pub sound : Sound (b .rest)
+    pub inside : b .end ≤ length d
+    pub whole : take (b .end) x ++ restOf (b .rest) ≡ restOf r
+    pub kept : drop (b .end) x ≡ drop (b .end) d

@@ -1,4 +1,4 @@
--- `report::block::put_met` meets its contract: the answer that it puts is that of the ray and the curve. Assumes nothing.
+-- `blocks::put_met` meets its contract: the answer that it puts is that of the ray and the curve. Assumes nothing.
 use mathlib.Core.Bool.{Bool}
 use mathlib.Core.List.{List}
 use mathlib.Core.Path.{_≡_, ap}
@@ -15,10 +15,10 @@ use Rattle.curve.specs.Layout.{floats}
 use Rattle.intersect.specs.Intersect.{intersectOf}
 use Rattle.intersect.specs.declared.Intersection.{Intersection}
 use Rattle.text.proofs.Puts.{renamed}
 use Rattle.report.specs.Printed.{answerText}
-use Rattle.report.specs.Report.{curveAt, metAt}
-use Rattle.report.proofs.block.put_met.Statement.{statement}
-use Rattle.report.proofs.block.put_met.Tie as tie
+use Rattle.blocks.specs.Report.{curveAt, metAt}
+use Rattle.blocks.proofs.put_met.Statement.{statement}
+use Rattle.blocks.proofs.put_met.Tie as tie
 
 met-is : (rays list : List Float) (i j : ℕ) (reverse : Bool) (o : Matrix4x4) (r : Ray) (met : Intersection) → o ≡ identity → r ≡ rayFrom rays (i * rayFloats)
     → met ≡ intersectOf (take (j * floats + floats - j * floats) (drop (j * floats) list)) o o reverse r → met ≡ metAt rays list reverse i j

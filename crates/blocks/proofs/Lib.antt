@@ -1,0 +1,3 @@
+pub mod Blocks
+mod Lines
+mod Narrow
