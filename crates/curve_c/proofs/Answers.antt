@@ -1,6 +1,7 @@
 -- What a returned number means: 0 is an answer and never a refusal, and of curve_intersect neither is 1. Assumes nothing.
-use mathlib.Core.Bool.{Bool, true, false, cond, not, _&&_}
+use mathlib.Core.Bool.{Bool, true, false, cond}
 use mathlib.Core.List.{List}
+use mathlib.Core.Logic.{⊎-elim}
 use mathlib.Core.Path.{_≡_, refl, sym, ap, _∙_}
 use Prim.Native.Nat.{ℕ, zero, suc, _/_, _≤_}
 use native.Mathlib.Omega.{arith}
@@ -16,12 +17,10 @@ use Rattle.transform.specs.declared.bounds.TransformedBounds.{TransformedBounds
 use Rattle.transform.specs.declared.bounds.TransformedBounds.the-variants as transformed
 use Rattle.limits.specs.Refusal.{firstOf, told}
 use Rattle.create.specs.Create.{curveCount, createRefusals, createdOf}
-use Rattle.curve.specs.declared.curve.Curve.{Curve}
-use Rattle.curve.specs.Curve.{isCurve, curveRefusals}
+use Rattle.curve.specs.Curve.{curveRefusals}
 use Rattle.curve.specs.Layout.{curveFrom}
 use Rattle.measure.specs.Bound.{boundOf, objectBound, boundFrom, worldBoundOf, worldBoundRefusals, worldBound}
 use Rattle.measure.specs.Area.{areaOf, areaIn}
-use Rattle.limits.specs.Within.{matrixWithin}
 use Rattle.limits.specs.List.{over}
 use Rattle.measure.specs.declared.bound.Bound.the-variants as bound
 use Rattle.measure.specs.declared.areas.Measured.the-variants as measured
@@ -29,16 +28,9 @@ use Rattle.create.specs.declared.create.Params.{Params}
 use Rattle.create.specs.declared.create.Created.the-variants as created
 use Rattle.intersect.specs.declared.Intersection.{Intersection}
 use Rattle.intersect.specs.declared.Intersection.the-variants.{Hit, Miss, Refused}
-use Rattle.frame.specs.declared.frame.Framed.{Framed}
-use Rattle.frame.specs.declared.frame.Framed.the-variants as framed
 use Rattle.interaction.specs.declared.SurfaceInteraction.{SurfaceInteraction}
-use Rattle.overlap.specs.Depth.{depthOf}
-use Rattle.overlap.specs.Subcurve.{wholeOf}
-use Rattle.leaf.specs.Record.{flipsOf}
-use Rattle.frame.specs.Frame.{framedCurve}
-use Rattle.limits.specs.Within.{rayWithin}
-use Rattle.intersect.specs.Intersect.{repliedAt, intersectWhole, intersectFramed, rayRefusals, intersectRefusals, intersectOf}
-use Rattle.intersect.proofs.ReplySays.{refusal-number}
+use Rattle.intersect.specs.Intersect.{intersectOf}
+use Rattle.intersect.proofs.IntersectCorrect.{refusal-tells}
 use Rattle.grammar.specs.Head.{headOf}
 use Rattle.sheet.specs.Sheet.{pointsOf, rayCount, raysOf, isWhole, noRays, refusedWith, paramsIn, withCurves, sheetWithin, sheetOf}
 use Rattle.grammar.specs.declared.head.Head.{Head}
@@ -86,29 +78,13 @@ Numbered (Hit h n) = Unit {0}
 Numbered (Miss n) = Unit {0}
 Numbered (Refused k) = 9 ≤ k
 
-framed-numbered : (c : Curve) (flip : Bool) (f : Framed) → Numbered (intersectFramed c flip f)
-unfolding intersectFramed intersectWhole wholeOf
-framed-numbered c flip (framed.Curve ray v cp) = go (repliedAt c ray flip v (wholeOf c cp) (depthOf c cp)) refl
+met-numbered : (l : List Float) (o2w w2o : Matrix4x4) (reverse : Bool) (r : Ray) → Numbered (intersectOf l o2w w2o reverse r)
+met-numbered l o2w w2o reverse r = go (intersectOf l o2w w2o reverse r) refl
   where
-    go : (r : Intersection) → repliedAt c ray flip v (wholeOf c cp) (depthOf c cp) ≡ r → Numbered r
+    go : (met : Intersection) → intersectOf l o2w w2o reverse r ≡ met → Numbered met
     go (Hit h n) e = tt
     go (Miss n) e = tt
-    go (Refused k) e = omega (arith, refusal-number c v (wholeOf c cp) _ ray flip k e .0)
-framed-numbered c flip framed.ZeroWeight = lit≤ tt
-framed-numbered c flip framed.ZeroLength = lit≤ tt
-
-met-numbered : (l : List Float) (o2w w2o : Matrix4x4) (reverse : Bool) (r : Ray) → Numbered (intersectOf l o2w w2o reverse r)
-unfolding intersectOf firstOf intersectRefusals rayRefusals
-met-numbered l o2w w2o reverse r =
-    let c = curveFrom l in
-    let f = framedCurve c w2o r in
-    go (not (isCurve l)) (not (matrixWithin o2w && matrixWithin w2o)) (not (rayWithin r)) (intersectFramed c (flipsOf reverse o2w) f) (framed-numbered c (flipsOf reverse o2w) f)
-  where
-    go : (a b c : Bool) (x : Intersection) → Numbered x → Numbered (told Refused (cond a 9 (cond b 10 (cond c 11 0))) x)
-    go true b c x n = lit≤ tt
-    go false true c x n = lit≤ tt
-    go false false true x n = lit≤ tt
-    go false false false x n = n
+    go (Refused k) e = ⊎-elim (λ h. h .0) (λ h. omega (arith, h .0)) (refusal-tells l o2w w2o reverse r k e)
 
 pub met-hits : (piece o2w w2o : List Float) (reverse : ℕ) (ray : List Float) → metNumber (metBy piece o2w w2o reverse ray) ≡ 0
     → (h : SurfaceInteraction) × (n : ℕ) × (metBy piece o2w w2o reverse ray ≡ Hit h n)

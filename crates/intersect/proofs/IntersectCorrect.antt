@@ -2,6 +2,7 @@
 use mathlib.Core.Bool.{Bool, true, false, cond, not, _&&_}
 use mathlib.Core.List.{List, _++_}
 use mathlib.Core.Logic.{_⊎_, inl, inr, ⊎-elim}
+use mathlib.Core.Option.{some}
 use mathlib.Core.Path.{_≡_, refl, sym, ap, subst, _∙_}
 use Prim.Native.Nat.{ℕ, _+_, _-_, _^_, _≤_}
 use native.Mathlib.Omega.{arith}
@@ -24,8 +25,8 @@ use Rattle.overlap.specs.Depth.{depthOf}
 use Rattle.overlap.specs.Subcurve.{wholeOf}
 use Rattle.overlap.proofs.DepthMost.{depth-most}
 use Rattle.leaf.specs.Record.{flipsOf}
-use Rattle.intersect.specs.declared.Intersection.{Intersection}
-use Rattle.intersect.specs.declared.Intersection.the-variants.{Hit, Miss, Refused}
+use Rattle.intersect.specs.declared.Intersection.the-variants.{Refused}
+use Rattle.intersect.specs.Answer.{metNumber, metCount}
 use Rattle.intersect.specs.Correct.{Decided, framingRefusals, refusals, RefusedBefore, Correct}
 use Rattle.intersect.specs.Intersect.{repliedAt, intersectWhole, intersectFramed, rayRefusals, intersectRefusals, intersectOf}
 use Rattle.intersect.proofs.ReplySays.{decided}
@@ -47,11 +48,6 @@ first-of-three l o2w w2o r t = go (isCurve l) (matrixWithin o2w && matrixWithin 
 -- 2 ^ (10 + 1) - 1
 few : (n d : ℕ) → d ≤ 10 → n ≤ 2 ^ (d + 1) - 1 → n ≤ 2047
 few n d l h = let small : d + 1 ≤ 11 = omega arith in omega (arith, pow-mono small)
-
-abbrev numberIn : Intersection → ℕ
-numberIn (Hit at n) = 0
-numberIn (Miss n) = 0
-numberIn (Refused k) = k
 
 module _ (l : List Float) (o2w w2o : Matrix4x4) (reverse : Bool) (r : Ray) where
   -- what passes 9 to 13 is answered by the leaves of the framed curve, cut as often as its depth says
@@ -104,4 +100,8 @@ module _ (l : List Float) (o2w w2o : Matrix4x4) (reverse : Bool) (r : Ray) where
   refusal-tells k e = ⊎-elim (λ h. inl (rw (← same h) (h .least, h .most, h .first))) (λ h. let n = h .decided .number k e in inr (n .0, n .1, h .passed)) intersect-correct
     where
       same : (h : RefusedBefore l o2w w2o reverse r (intersectOf l o2w w2o reverse r)) → h .number ≡ k
-      same h = ap numberIn (sym (h .refused) ∙ e)
+      same h = ap metNumber (sym (h .refused) ∙ e)
+
+  -- whatever was asked, the count in a hit or a miss is at most 2,047
+  pub count-few : (n : ℕ) → metCount (intersectOf l o2w w2o reverse r) ≡ some n → n ≤ 2047
+  count-few n e = ⊎-elim (λ h. absurd (let clash = sym (ap metCount (h .refused)) ∙ e in let z : _≡_ {A = ℕ} 0 1 = cc in omega arith)) (λ h. h .looked-most n e) intersect-correct

@@ -27,7 +27,8 @@ use Rattle.interaction.specs.declared.SurfaceInteraction.{SurfaceInteraction}
 use Rattle.intersect.specs.declared.Intersection.{Intersection}
 use Rattle.intersect.specs.declared.Intersection.the-variants.{Hit, Miss, Refused}
 use Rattle.intersect.proofs.Flat.{stop-passes}
-use Rattle.intersect.specs.Correct.{NoneThrown, OpenAnd, NoneIn, FirstIs, LastIs, StopsWith, SomePasses, NonePasses, Decides, openPieces, IsHit, IsMiss, countIn, Decided}
+use Rattle.intersect.specs.Answer.{metCount}
+use Rattle.intersect.specs.Correct.{NoneThrown, OpenAnd, NoneIn, FirstIs, LastIs, StopsWith, SomePasses, NonePasses, Decides, openPieces, IsHit, IsMiss, Decided}
 use Rattle.intersect.specs.Intersect.{passes, stops, replyOf, subcurveAt, thrown, wholeOpen, openAt, leafAt, stopOf, lastOf, countOf, repliedAt}
 
 -- an open leaf that fails the test
@@ -141,10 +142,10 @@ module _ (c : Curve) (v : View) (s : Subcurve) (d : ℕ) where
         → (i : ℕ) × (x : Crossing) × (f : Frame) × Decides c v s d i × (leafAt c v s d i ≡ Passes x f) × (at ≡ recordOf c ray flip x f)
     recorded at n e = let h = subst Says e says .1 in (h .0, h .1, h .2, h .3, h .5, h .6)
 
-    counted : (n : ℕ) → countIn (repliedAt c ray flip v s d) ≡ some n → n ≡ countOf c v s d
+    counted : (n : ℕ) → metCount (repliedAt c ray flip v s d) ≡ some n → n ≡ countOf c v s d
     counted n = go (repliedAt c ray flip v s d) says
       where
-        go : (r : Intersection) → Says r → countIn r ≡ some n → n ≡ countOf c v s d
+        go : (r : Intersection) → Says r → metCount r ≡ some n → n ≡ countOf c v s d
         go (Hit r m) h e = ap (atOr (λ i. i) 0) (sym e) ∙ h .0
         go (Miss m) h e = ap (atOr (λ i. i) 0) (sym e) ∙ h .0
         go (Refused k) h e = absurd (Option·none-ne-some n e)

@@ -30,6 +30,7 @@ use Rattle.leaf.specs.Record.{flipsOf, recordOf}
 use Rattle.interaction.specs.declared.SurfaceInteraction.{SurfaceInteraction}
 use Rattle.intersect.specs.declared.Intersection.{Intersection}
 use Rattle.intersect.specs.declared.Intersection.the-variants.{Hit, Miss, Refused}
+use Rattle.intersect.specs.Answer.{metCount}
 use Rattle.intersect.specs.Intersect.{passes, stops, subcurveAt, thrown, wholeOpen, openAt, leafAt, stopOf, lastOf, intersectRefusals}
 
 -- neither the subcurve j of level k nor any that holds it, the whole included, is thrown out: m levels up it is number j / 2 ^ m that holds it
@@ -83,12 +84,6 @@ IsHit r = (at : SurfaceInteraction) × (n : ℕ) × (r ≡ Hit at n)
 abbrev pub IsMiss : Intersection → Type 0
 IsMiss r = (n : ℕ) × (r ≡ Miss n)
 
--- the count in a hit or a miss
-abbrev pub countIn : Intersection → Option ℕ
-countIn (Hit at n) = some n
-countIn (Miss n) = some n
-countIn (Refused k) = none
-
 -- The answer is right for the slivers of `whole` after d cuts. `ray` is the ray in the object's frame, and `flip` says whether normals turn: only the record asks for them.
 pub record Decided (c : Curve) (ray : Ray) (flip : Bool) (v : View) (whole : Subcurve) (d : ℕ) (answer : Intersection) : Type 0 where
   -- "A piece is open if neither it nor any piece holding it, the whole included, is thrown out."
@@ -109,9 +104,9 @@ pub record Decided (c : Curve) (ray : Ray) (flip : Bool) (v : View) (whole : Sub
   pub recorded : (at : SurfaceInteraction) (n : ℕ) → answer ≡ Hit at n
       → (i : ℕ) × (x : Crossing) × (f : Frame) × Decides c v whole d i × (leafAt c v whole d i ≡ Passes x f) × (at ≡ recordOf c ray flip x f)
   -- "The count in a hit or a miss equals the number of open pieces of the walk, of all sizes, that start no later than the stop, all of them if there is none."
-  pub counted : (n : ℕ) → countIn answer ≡ some n → n ≡ openPieces c v whole d
+  pub counted : (n : ℕ) → metCount answer ≡ some n → n ≡ openPieces c v whole d
   -- "It is at most 2^(d+1) - 1."
-  pub count-most : (n : ℕ) → countIn answer ≡ some n → n ≤ 2 ^ (d + 1) - 1
+  pub count-most : (n : ℕ) → metCount answer ≡ some n → n ≤ 2 ^ (d + 1) - 1
 
 -- ---- the call
 
@@ -157,7 +152,7 @@ module _ (l : List Float) (o2w w2o : Matrix4x4) (reverse : Bool) (r : Ray) (answ
     pub depth-most : d ≤ 10
     pub decided : Decided (curveFrom l) ray (flipsOf reverse o2w) view whole d answer
     -- so the count is at most 2,047
-    pub looked-most : (n : ℕ) → countIn answer ≡ some n → n ≤ 2047
+    pub looked-most : (n : ℕ) → metCount answer ≡ some n → n ≤ 2047
 
   -- an answer of `intersect` to these is right
   abbrev pub Correct : Type 0
