@@ -124,15 +124,12 @@ rowAt l at key n = cond (isRow l at key n) (Value n (at + rowSize key n)) Wrong
 
 -- ---- a line of any kind
 
--- the kinds: 0 to 6 are the head's in their order, then a point, and any other is a ray
+-- the kinds: below 7 the head's lines in their order, then a point, and any other is a ray
 abbrev pub headLines : ℕ
 headLines = 7
 
 abbrev pub pointLine : ℕ
-pointLine = 7
-
-abbrev pub rayLine : ℕ
-rayLine = 8
+pointLine = headLines
 
 unfoldable pub rowKey : ℕ → List ℕ
 rowKey kind = cond (eqb kind pointLine) pointKey rayKey
