@@ -21,6 +21,7 @@ fn run_curves() {
     run(b"three-crossings.sheet");
     run(b"spiral.sheet");
     run(b"zero.sheet");
+    run(b"deep.sheet");
     run(b"no-pieces.sheet");
     run(b"split10.sheet");
 }
@@ -31,6 +32,7 @@ fn run_refused_rays() {
     run(b"refused_13.sheet");
     run(b"refused_14.sheet");
     run(b"width100.sheet");
+    run(b"refused_15_at_zero.sheet");
     run(b"refused_16.sheet");
     run(b"refused_16_direction.sheet");
 }
