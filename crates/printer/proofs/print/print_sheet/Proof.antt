@@ -12,10 +12,10 @@ use Rattle.printer.proofs.print.print_sheet.Statement.{statement}
 use Rattle.printer.proofs.print.print_sheet.Tie as tie
 
 abbrev Inv-loop : tie.InvT-loop
-Inv-loop bytes list out₀ report₀ out report = Sound report × (length out ≡ 65536)
+Inv-loop bytes list out₀ rest₀ out rest = Sound rest × (length out ≡ 65536)
 
 abbrev μ-loop : tie.MeasureT-loop
-μ-loop bytes list out₀ report₀ out report = linesLeft report
+μ-loop bytes list out₀ rest₀ out rest = linesLeft rest
 
 loop-holds : tie.Need-loop-holds Inv-loop μ-loop
 loop-holds c = (c .«open» .ensures .0, sym (c .before .before .large-buffer .ensures))
