@@ -20,7 +20,7 @@ use Rattle.sheet.proofs.ReplyWithin.{reply-within}
 use Rattle.report.specs.Printed.{longest}
 use Rattle.blocks.specs.declared.Behind.{Behind}
 use Rattle.blocks.specs.declared.Block.{Block}
-use Rattle.blocks.specs.declared.Report.{Report}
+use Rattle.blocks.specs.declared.Rest.{Rest}
 use Rattle.blocks.specs.Report.{replyText, reportIn, reportOf}
 use Rattle.blocks.specs.Blocks.{Small, lineCount, linesText, LinesPut, Sound, linesLeft, restOf, IsBlock}
 use Rattle.blocks.proofs.Lines.{no-lines, lines-append, all-lines}
@@ -44,10 +44,10 @@ all-left bytes list list′ read e f = all-lines (read .rays) list′ (read .rep
 -- ---- a block
 
 module _ (rays list : List Float) (reply : Reply) (from : ℕ) (d x : List ℕ) (b : Behind) (put : LinesPut rays list reply from d x b) where
-  abbrev before : Report
+  abbrev before : Rest
   before = record { reply = reply; rays = rays; next = from }
 
-  abbrev behind : Report
+  abbrev behind : Rest
   behind = record { reply = reply; rays = rays; next = b .next }
 
   -- lines that were put are one
@@ -77,16 +77,16 @@ module _ (rays list : List Float) (reply : Reply) (from : ℕ) (d x : List ℕ) 
 -- ---- all blocks
 
 -- the bytes of blocks that follow each other until no line is left
-pub data Blocks (list : List Float) : Report → List ℕ → Type 0 where
-  none : {r : Report} → Sound r → linesLeft r ≡ 0 → Blocks list r []
-  one : {r : Report} {d x : List ℕ} {b : Block} {text : List ℕ} → IsBlock list r d x b → Blocks list (b .rest) text → Blocks list r (take (b .end) x ++ text)
+pub data Blocks (list : List Float) : Rest → List ℕ → Type 0 where
+  none : {r : Rest} → Sound r → linesLeft r ≡ 0 → Blocks list r []
+  one : {r : Rest} {d x : List ℕ} {b : Block} {text : List ℕ} → IsBlock list r d x b → Blocks list (b .rest) text → Blocks list r (take (b .end) x ++ text)
 
 -- THE LAWS: they are what is left, and so the whole report where they start with it
-pub blocks-left : {list : List Float} {r : Report} {text : List ℕ} → Blocks list r text → text ≡ restOf list r
+pub blocks-left : {list : List Float} {r : Rest} {text : List ℕ} → Blocks list r text → text ≡ restOf list r
 unfolding restOf linesLeft
 blocks-left {list} (none {r} s e) = let all : r .next ≡ lineCount (r .reply) = omega arith in sym (ap (λ (k : ℕ). linesText (r .rays) list (r .reply) k (lineCount (r .reply))) all ∙ no-lines (r .rays) list (r .reply) (lineCount (r .reply)))
 blocks-left (one {x = x} {b = b} block rest) = ap (λ (l : List ℕ). take (b .end) x ++ l) (blocks-left rest) ∙ block .whole
 
-pub blocks-report : (bytes text : List ℕ) (list : List Float) (r : Report) → restOf list r ≡ reportIn bytes (replicate (mostCurves * floats) 0f) → Blocks list r text → text ≡ reportOf bytes
+pub blocks-report : (bytes text : List ℕ) (list : List Float) (r : Rest) → restOf list r ≡ reportIn bytes (replicate (mostCurves * floats) 0f) → Blocks list r text → text ≡ reportOf bytes
 unfolding reportOf
 blocks-report bytes text list r e blocks = blocks-left blocks ∙ e

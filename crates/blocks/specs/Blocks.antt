@@ -14,7 +14,7 @@ use Rattle.sheet.specs.declared.Reply.the-variants.{Accepted, Refused}
 use Rattle.report.specs.Printed.{piecesText, refusedSheetText}
 use Rattle.blocks.specs.declared.Behind.{Behind}
 use Rattle.blocks.specs.declared.Block.{Block}
-use Rattle.blocks.specs.declared.Report.{Report}
+use Rattle.blocks.specs.declared.Rest.{Rest}
 use Rattle.blocks.specs.Report.{metText}
 
 -- how large the numbers of a sheet's reply are
@@ -48,19 +48,19 @@ module _ (rays list : List Float) where
 
 -- ---- blocks
 
-abbrev pub Sound : Report → Type 0
+abbrev pub Sound : Rest → Type 0
 Sound r = Small (r .reply) × (r .next ≤ lineCount (r .reply))
 
-unfoldable pub linesLeft : Report → ℕ
+unfoldable pub linesLeft : Rest → ℕ
 linesLeft r = lineCount (r .reply) - r .next
 
 module _ (list : List Float) where
   -- what is left to print
-  unfoldable pub restOf : Report → List ℕ
+  unfoldable pub restOf : Rest → List ℕ
   restOf r = linesText (r .rays) list (r .reply) (r .next) (lineCount (r .reply))
 
   -- a block is the start of what is left, and the rest is left behind it; the buffer d keeps the bytes behind its end
-  pub record IsBlock (r : Report) (d x : List ℕ) (b : Block) : Type 0 where
+  pub record IsBlock (r : Rest) (d x : List ℕ) (b : Block) : Type 0 where
     pub sound : Sound (b .rest)
     pub inside : b .end ≤ length d
     pub whole : take (b .end) x ++ restOf (b .rest) ≡ restOf r

@@ -25,17 +25,17 @@ use sheet::Reply;
 // The floats of the most curves.
 pub const ROOM: usize = MOST_CURVES * FLOATS;
 
-// What was read of a sheet, but for its curves, and the line of its report that is next.
-pub struct Report {
+// What is left of a sheet's report: what was read of the sheet, but for its curves, and the line that is next.
+pub struct Rest {
     pub reply: Reply,
     pub rays: [f32; RAYS_FLOATS],
     pub next: usize,
 }
 
-// The place behind a block's bytes, and what is left of the report.
+// The place behind a block's bytes, and what is left behind it.
 pub struct Block {
     pub end: usize,
-    pub rest: Report,
+    pub rest: Rest,
 }
 
 // The place behind the bytes of lines that were put, and the line behind them.
@@ -129,14 +129,14 @@ fn put_lines(
 }
 
 // Reads a sheet, its curves into the list, and stands before the first line of its report.
-pub fn open(bytes: &[u8], list: &mut [f32; ROOM]) -> Report
+pub fn open(bytes: &[u8], list: &mut [f32; ROOM]) -> Rest
     ensures { λ r. ⌜ Sound r ⌝ }
     ensures { λ r. ⌜ restOf (now (list .exit)) r ≡ reportIn (now (bytes .entry)) (now (list .entry)) ⌝ }
 {
     let read = sheet::read_sheet(bytes, list);
     let reply = read.reply;
     let rays = read.rays;
-    Report {
+    Rest {
         reply,
         rays,
         next: 0,
@@ -144,25 +144,25 @@ pub fn open(bytes: &[u8], list: &mut [f32; ROOM]) -> Report
 }
 
 // Whether nothing is left.
-pub fn is_done(report: Report) -> bool
-    requires { ⌜ Sound report ⌝ }
-    ensures { λ r. ⌜ r ≡ eqb (linesLeft report) 0 ⌝ }
+pub fn is_done(left: Rest) -> bool
+    requires { ⌜ Sound left ⌝ }
+    ensures { λ r. ⌜ r ≡ eqb (linesLeft left) 0 ⌝ }
 {
-    let reply = report.reply;
-    line_count(reply) - report.next == 0
+    let reply = left.reply;
+    line_count(reply) - left.next == 0
 }
 
 // Puts the next lines into the buffer: one at least, where there is room for the longest.
-pub fn put_block(out: &mut [u8], list: &[f32; ROOM], report: Report) -> Block
-    requires { ⌜ Sound report ⌝ }
-    ensures { λ r. ⌜ IsBlock (now (list .entry)) report (now (out .entry)) (now (out .exit)) r ⌝ }
-    ensures { λ r. ⌜ (0 < linesLeft report → longest ≤ length (now (out .entry)) → linesLeft (r .rest) < linesLeft report) ⌝ }
+pub fn put_block(out: &mut [u8], list: &[f32; ROOM], left: Rest) -> Block
+    requires { ⌜ Sound left ⌝ }
+    ensures { λ r. ⌜ IsBlock (now (list .entry)) left (now (out .entry)) (now (out .exit)) r ⌝ }
+    ensures { λ r. ⌜ (0 < linesLeft left → longest ≤ length (now (out .entry)) → linesLeft (r .rest) < linesLeft left) ⌝ }
 {
-    let reply = report.reply;
-    let rays = report.rays;
-    let from = report.next;
+    let reply = left.reply;
+    let rays = left.rays;
+    let from = left.next;
     let put = put_lines(out, &rays, list, reply, from);
     let next = put.next;
-    let rest = Report { reply, rays, next };
+    let rest = Rest { reply, rays, next };
     Block { end: put.end, rest }
 }

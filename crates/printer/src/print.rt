@@ -23,13 +23,13 @@ fn explain_refusal(reply: Reply) {
 pub fn print_sheet(bytes: &[u8]) {
     let mut list = [0.0f32; ROOM];
     let mut out = io::large_buffer();
-    let mut report = blocks::open(bytes, &mut list);
-    while !is_done(report) {
-        let block = put_block(&mut out, &list, report);
+    let mut rest = blocks::open(bytes, &mut list);
+    while !is_done(rest) {
+        let block = put_block(&mut out, &list, rest);
         let end = block.end;
         write(&out[..end]);
-        report = block.rest;
+        rest = block.rest;
     }
-    let reply = report.reply;
+    let reply = rest.reply;
     explain_refusal(reply);
 }
