@@ -29,7 +29,7 @@ numbersWithin most [] = true
 numbersWithin most (row ∷ rest) = leb (row .1) most && numbersWithin most rest
 
 -- so the first that holds has none above it
-pub first-most : (most : ℕ) (t : Table) → numbersWithin most t ≡ true → firstOf t ≤ most
+first-most : (most : ℕ) (t : Table) → numbersWithin most t ≡ true → firstOf t ≤ most
 unfolding firstOf
 first-most most [] h = omega arith
 first-most most (row ∷ rest) h = let both = and-eq-true-iff (leb (row .1) most) (numbersWithin most rest) .0 h in go (row .0) (leb-true _ _ (both .0)) (first-most most rest (both .1))
