@@ -12,3 +12,4 @@ mod NearestRoot
 mod Pattern
 mod Rooting
 mod Shapes
+mod Zero

@@ -120,31 +120,25 @@ fn shift_nearest(m: u64, s: u64) -> u64
 }
 
 // The square root of x, rounded to the nearest value. A zero gives itself, and what is below zero a
-// NaN. With the sign out of the way, the field of the exponent decides.
+// NaN. Above zero the field of the exponent decides.
 pub fn sqrt(x: f32) -> f32
     ensures { λ r. ⌜ r ≡ sqrtOf x ⌝ }
 {
-    if x != x {
-        return x;
-    }
-    let bits: u32 = f32::to_bits(x);
-    if 0x8000_0000 <= bits {
-        if bits == 0x8000_0000 {
-            return x; // -0.0
-        }
-        return 0.0 / 0.0;
-    }
-    let exponent = (bits >> 23) as u8;
-    match exponent {
-        0 => {
-            if bits == 0 {
-                return x;
+    if 0.0 < x {
+        let bits: u32 = f32::to_bits(x);
+        let exponent = (bits >> 23) as u8;
+        match exponent {
+            0 => {
+                let zeros = u32::leading_zeros(bits) - 8;
+                root((bits << zeros) + ((24 - zeros) << 23))
             }
-            let zeros = u32::leading_zeros(bits) - 8;
-            root((bits << zeros) + ((24 - zeros) << 23))
+            1..=254 => root(bits + (24 << 23)),
+            255 => x,
         }
-        1..=254 => root(bits + (24 << 23)),
-        255 => x,
+    } else if x == 0.0 {
+        x // a zero of either sign
+    } else {
+        0.0 / 0.0
     }
 }
 
