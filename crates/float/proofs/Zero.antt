@@ -23,7 +23,7 @@ above-no-nan (inf s) h = tt
 above-no-nan (fin s m e) h = tt
 
 -- the sign has no part in whether a value fits
-any-sign : (s t : Bool) (m : ℕ) (e : ℤ) → T (fits binary32 (fin s m e)) → T (fits binary32 (fin t m e))
+pub any-sign : (s t : Bool) (m : ℕ) (e : ℤ) → T (fits binary32 (fin s m e)) → T (fits binary32 (fin t m e))
 unfolding fits
 any-sign s t zero e h = h
 any-sign s t (suc m) e h = h

@@ -32,16 +32,13 @@ pub fn to_bits(x: f32) -> u32
     f32::to_bits(x)
 }
 
-// x without its sign: -0.0 gives 0.0, and a NaN a NaN. By the bits, since a test of the sign is
-// often mispredicted.
+// x without its sign: -0.0 gives 0.0, and a NaN a NaN. It is the greater of x and 0.0 - x, which
+// compiles to no jump: the sign would often be mispredicted.
 pub fn abs(x: f32) -> f32
     ensures { λ r. ⌜ r ≡ absOf x ⌝ }
 {
-    if x != x {
-        return x;
-    }
-    let bits: u32 = f32::to_bits(x);
-    f32::from_bits(bits % 0x8000_0000)
+    let opposite = 0.0 - x;
+    if opposite < x { x } else { opposite }
 }
 
 // The larger of the two. Where one is a NaN it is the other, and of equal values it is the first.
