@@ -5,7 +5,7 @@ ghost use Prim.Native.Nat.{suc, _+_, _*_, _/_, _%_, _^_, _≤_, _<_};
 ghost use lib.Ieee.{binary32, prec, hid, ones, ofBits, toBits};
 ghost use lib.Ieee.Nearest.{closest};
 ghost use Rattle.float.specs.Basic.{absOf, maxOf, minOf};
-ghost use Rattle.float.specs.Narrow.{narrowOf, spare};
+ghost use Rattle.float.specs.Narrow.{narrowOf, restOf, spare};
 ghost use Rattle.float.specs.Root.{isqrt, rootOfRaised, sqrtOf};
 
 mod guess;
@@ -87,6 +87,20 @@ pub fn narrow(x: f64) -> f32
     let exponent = magnitude >> 52;
     // the same exponent has a field that is 896 more in f64, and f64 has 29 digits more
     let rounded = match exponent {
+        // a normal value, or an infinity where the rounding carries that far: the field and the
+        // digits are cut as one number
+        897..=1150 => shift_nearest(magnitude - (896 << 52), 29),
+        _ => narrow_rest(magnitude),
+    };
+    f32::from_bits((sign + rounded) as u32)
+}
+
+// The rounded pattern of `narrow` for what is no normal value of f32, by its pattern, without signs.
+fn narrow_rest(magnitude: u64) -> u64
+    ensures { λ r. ⌜ r ≡ restOf magnitude ⌝ }
+{
+    let exponent = magnitude >> 52;
+    match exponent {
         // below half of the least subnormal
         0..=872 => 0,
         // a subnormal, or the least normal value
@@ -94,13 +108,9 @@ pub fn narrow(x: f64) -> f32
             magnitude % 0x10_0000_0000_0000 + 0x10_0000_0000_0000,
             926 - exponent,
         ),
-        // a normal value, or an infinity where the rounding carries that far: the field and the
-        // digits are cut as one number
-        897..=1150 => shift_nearest(magnitude - (896 << 52), 29),
         // an infinity
         _ => 0x7f80_0000,
-    };
-    f32::from_bits((sign + rounded) as u32)
+    }
 }
 
 // m / 2^s to the nearest whole number, and at a tie to the even one. Half of 2^s is added before
