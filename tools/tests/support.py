@@ -29,10 +29,10 @@ def text_of(path: Path) -> str:
     return path.read_bytes().decode()
 
 
-def run(*arguments: object, stdin: str = "") -> subprocess.CompletedProcess:
-    """Runs the command as a user does, from the folder of the repository."""
+def run(*arguments: object, stdin: str = "", tool: str = "belt") -> subprocess.CompletedProcess:
+    """Runs a tool as a user does, from the folder of the repository."""
     return subprocess.run(
-        [sys.executable, "-B", TOOLS / "belt", *arguments],
+        [sys.executable, "-B", TOOLS / tool, *arguments],
         input=stdin,
         capture_output=True,
         text=True,

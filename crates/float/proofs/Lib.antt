@@ -9,6 +9,8 @@ mod Fields
 mod Isqrt
 mod Narrowing
 mod NearestRoot
+mod Opposite
 mod Pattern
 mod Rooting
 mod Shapes
+mod Zero

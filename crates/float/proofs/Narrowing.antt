@@ -6,6 +6,7 @@ use mathlib.Core.Bool.{Bool, not, cond}
 use Prim.Native.Nat.{ℕ, zero, suc, _+_, _-_, _*_, _/_, _%_, _^_, _≤_, _<_, min, zero-le}
 use native.Mathlib.Nat.{lt-irrefl, lt-of-lt-of-le, add-comm, mul-one, mul-assoc, mul-left-comm, mul-le-mul-right, suc-mul, le-refl, le-trans, le-of-eq, le-add-left, eq-or-lt-of-le}
 use native.Mathlib.Omega.{arith}
+use borrow.Author.Tests.{le-leb, lt-leb}
 use lib.Dec.{T, leb, lit≤}
 use lib.Pow.{pow-add, pow-pos, pow-mono, shl-lt}
 use lib.Ieee.{Float, nan, inf, fin, Format, binary32, binary64, prec, emax, low, hid, ones, top, up, down, round, fits, isNan, ofBits, toBits, ofFields}
@@ -14,7 +15,7 @@ use lib.Ieee.Bits.{ofBits-toBits}
 use lib.Ieee.Exact.{HasValue, round-exact}
 use lib.Ieee.Nearest.{closest}
 use lib.Ieee.Scale.{round-same}
-use Rattle.float.specs.Narrow.{narrowAt}
+use Rattle.float.specs.Narrow.{fewer, rebias, restOf, narrowAt}
 use Rattle.float.proofs.Closest.{closest-zero, closest-plus, closest-le, closest-ge}
 use Rattle.float.proofs.Pattern.{join, twice, last, in-reach, pattern, built, same-value, round-no-nan}
 use Rattle.float.proofs.Fields.{read, significand, significand-lt, digits-in, field-in, finite-at, infinite-at}
@@ -178,13 +179,6 @@ narrow-kept f (fin s m e) h = number-kept f (fin s m e) h tt
 
 -- ---- from f64 to f32
 
--- how many digits fewer, and by how much the field of the same exponent is less
-abbrev pub fewer : ℕ
-fewer = prec binary64 - prec binary32
-
-abbrev pub rebias : ℕ
-rebias = emax binary64 - emax binary32
-
 module _ (s : Bool) (E t : ℕ) (H : t < hid binary64) where
   -- n is the pattern, without its sign
   abbrev pub Narrowed : ℕ → Type 0
@@ -204,3 +198,21 @@ module _ (s : Bool) (E t : ℕ) (H : t < hid binary64) where
 
   pub to-last : E ≡ ones binary64 → T (not (isNan (ofFields binary64 s E t))) → Narrowed (last binary32)
   to-last = arm-last binary32 binary64 s E t
+
+-- ---- `restOf`, by its three cases
+
+module _ (n : ℕ) where
+  abbrev E : ℕ
+  E = n / hid binary64
+
+  pub rest-zero : E + prec binary32 ≤ rebias → 0 ≡ restOf n
+  unfolding restOf
+  rest-zero h = rw (le-leb _ _ h) refl
+
+  pub rest-subnormal : rebias < E + prec binary32 → E ≤ rebias → closest (n % hid binary64 + hid binary64) (2 ^ (suc (rebias + fewer) - E)) ≡ restOf n
+  unfolding restOf
+  rest-subnormal l h = rw (lt-leb _ _ l, le-leb _ _ h) refl
+
+  pub rest-infinite : rebias < E → last binary32 ≡ restOf n
+  unfolding restOf
+  rest-infinite l = rw (lt-leb (E + prec binary32) rebias (omega arith), lt-leb E rebias l) refl

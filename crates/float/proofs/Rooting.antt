@@ -118,7 +118,7 @@ dropped f t = (t + 1 - prec f) / 2
 abbrev pub rootDigits : Format → ℕ → ℕ → ℕ
 rootDigits f m t = (isqrt (radicand f m t) + 1) / 2
 
--- what `root` hands to `nearest_root` is a quarter of c
+-- what `root` hands to `nearest_or_guess` is a quarter of c
 pub radicand-four : (f : Format) (m t : ℕ) → 4 * (m * 2 ^ (prec f - (t + prec f) % 2)) ≡ radicand f m t
 radicand-four f m t = let i = prec f - (t + prec f) % 2 in mul-comm 4 (m * 2 ^ i) ∙ join m i 2 ∙ ap (λ (x : ℕ). m * 2 ^ x) (omega (arith, two f))
 

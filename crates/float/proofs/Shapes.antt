@@ -1,21 +1,20 @@
 -- A value of either format that is finite and above zero as m * 2 ^ t of 1 / 4 ^ low, with an m of prec digits, by the fields of its pattern: what `sqrt` hands to `root`. Assumes nothing.
-use mathlib.Core.Path.{_≡_, refl, sym, ap, subst, _∙_}
-use mathlib.Core.Logic.{inl, inr}
-use mathlib.Core.Bool.{Bool, true, false, not, true≢false, false≢true}
+use mathlib.Core.Path.{_≡_, sym, ap, subst, _∙_}
+use mathlib.Core.Bool.{Bool, true, false, true≢false}
 use Prim.Native.Nat.{ℕ, zero, suc, _+_, _-_, _*_, _/_, _%_, _^_, _≤_, _<_}
-use native.Mathlib.Nat.{lt-irrefl, mul-pos, zero-mul, mul-one, mul-assoc, mul-right-comm, add-comm, mul-div-cancel, mod-eq-of-lt, mul-le-mul-right, lt-of-lt-of-le, lt-of-le-of-lt, le-of-lt, le-add-left, le-add-right, eq-or-lt-of-le}
+use native.Mathlib.Nat.{lt-irrefl, mul-pos, zero-mul, mul-one, mul-assoc, mul-right-comm, add-comm, mul-div-cancel, mod-eq-of-lt, mul-le-mul-right, lt-of-lt-of-le, lt-of-le-of-lt, le-add-left, le-add-right}
 use native.Mathlib.Omega.{arith}
 use lib.IntN.{ℤ}
-use lib.Dec.{T, leb, le→leb}
+use lib.Dec.{leb}
 use lib.Arith.{lt→nleb}
 use lib.Pow.{pow-add, pow-pos, pow-mono, shl-lt}
 use lib.Count.{leadingZeros, leading-top}
-use lib.Ieee.{Float, nan, inf, fin, Format, prec, emax, low, up, down, hid, ones, top, ofFields, isNan}
+use lib.Ieee.{Float, nan, inf, fin, Format, prec, emax, low, up, down, hid, ones, top, ofFields}
 use lib.Ieee.Fits.{two, reach, down-pos}
-use lib.Ieee.Bits.{is-true, is-false}
+use lib.Ieee.Bits.{is-false}
 use lib.Ieee.Exact.{HasValue}
 use Rattle.float.specs.Root.{raised, rootAt, sqrtAt}
-use Rattle.float.proofs.Fields.{at, significand, field-in, finite-at, infinite-at}
+use Rattle.float.proofs.Fields.{at, finite-at}
 use Rattle.float.proofs.Pattern.{join, four-pow, twice-hid, pow-lt-back}
 
 -- ---- a value's root, by the number of least values that it is
@@ -37,14 +36,6 @@ root-of f (inf s) a h A = absurd h
 root-of f (fin true m e) a h A = absurd (true≢false (h .0))
 root-of f (fin false zero e) a h A = absurd (no-zero e a (2 ^ low f) (h .1) A)
 root-of f (fin false (suc m) e) a h A = ap (rootAt f) (ap (λ (x : ℕ). x / down e) (scaled (suc m * up e) (down e) a (low f) (h .1)) ∙ mul-div-cancel (a * 2 ^ low f) (down-pos e))
-
-root-negative : (f : Format) (v : Float) (a : ℕ) → HasValue v true a (2 ^ low f) → 0 < a → sqrtAt f v ≡ nan
-unfolding sqrtAt
-root-negative f nan a h A = absurd h
-root-negative f (inf s) a h A = absurd h
-root-negative f (fin false m e) a h A = absurd (false≢true (h .0))
-root-negative f (fin true zero e) a h A = absurd (no-zero e a (2 ^ low f) (h .1) A)
-root-negative f (fin true (suc m) e) a h A = refl
 
 -- ---- the two shapes
 
@@ -119,27 +110,3 @@ shape-subnormal f w t W P h =
 
 pub clear-at : (f : Format) (b : ℕ) → b < top f → at f b ≡ ofFields f false (b / hid f) (b % hid f)
 clear-at f b h = ap (λ (s : Bool). ofFields f s (b % top f / hid f) (b % hid f)) (is-false (leb (top f) b) (lt→nleb (top f) b h)) ∙ ap (λ (x : ℕ). ofFields f false (x / hid f) (b % hid f)) (mod-eq-of-lt h)
-
--- ---- the pattern of a value below zero
-
-set-at : (f : Format) (b : ℕ) → top f ≤ b → at f b ≡ ofFields f true (b % top f / hid f) (b % hid f)
-set-at f b h = ap (λ (s : Bool). ofFields f s (b % top f / hid f) (b % hid f)) (is-true (leb (top f) b) (le→leb (top f) b h))
-
-some-digit : (f : Format) (E t : ℕ) → (E ≡ 0 → 0 < t) → 0 < significand f E t
-some-digit f zero t h = h refl
-some-digit f (suc E) t h = lt-of-lt-of-le (pow-pos (prec f - 1)) (le-add-right (hid f) t)
-
--- not -0.0: a field of 0 has a digit
-pub negative-root : (f : Format) (b : ℕ) → top f < b → (b % top f / hid f ≡ 0 → 0 < b % hid f) → T (not (isNan (at f b))) → sqrtAt f (at f b) ≡ nan
-unfolding sqrtAt
-negative-root f b l d n =
-    let E = b % top f / hid f in
-    let t = b % hid f in
-    ap (sqrtAt f) (set-at f b (le-of-lt l))
-    ∙ go E t (field-in f b) d (subst (λ (v : Float). T (not (isNan v))) (set-at f b (le-of-lt l)) n)
-  where
-    go : (E t : ℕ) → E ≤ ones f → (E ≡ 0 → 0 < t) → T (not (isNan (ofFields f true E t))) → sqrtAt f (ofFields f true E t) ≡ nan
-    go E t k d n = elim (eq-or-lt-of-le k) [
-      | inl e ↦ ap (sqrtAt f) (infinite-at f true E t e n)
-      | inr m ↦ root-negative f (ofFields f true E t) (significand f E t * 2 ^ (E - 1)) (finite-at f true E t m) (mul-pos (some-digit f E t d) (pow-pos (E - 1)))
-    ]

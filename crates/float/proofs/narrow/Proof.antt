@@ -2,18 +2,19 @@
 use mathlib.Core.Path.{_≡_, sym, ap, _∙_, subst}
 use mathlib.Core.Logic.{_⊎_, inl, inr, ⊎-elim}
 use mathlib.Core.Bool.{not}
-use Prim.Native.Nat.{ℕ, suc, _+_, _-_, _*_, _/_, _%_, _^_, _<_}
-use native.Mathlib.Nat.{eq-or-lt-of-le}
+use Prim.Native.Nat.{ℕ, suc, _+_, _-_, _*_, _/_, _%_, _^_, _≤_, _<_}
+use native.Mathlib.Nat.{eq-or-lt-of-le, lt-of-not-le}
+use native.Mathlib.Decide.{decLe}
 use native.Mathlib.Omega.{arith}
 use borrow.Author.Needs.{needs}
 use lib.Dec.{T, leb}
-use lib.Ieee.{Float, binary32, binary64, hid, ones, top, isNan, fits, ofBits, toBits}
+use lib.Ieee.{Float, binary32, binary64, prec, hid, ones, top, isNan, fits, ofBits, toBits}
 use lib.Ieee.Bits.{toBits-lt}
 use lib.Ieee.Nearest.{closest}
-use Rattle.float.specs.Narrow.{narrowAt, narrowOf}
+use Rattle.float.specs.Narrow.{fewer, rebias, restOf, narrowAt, narrowOf}
 use Rattle.float.proofs.Compare.{quotient-nan, nan-of, not-nan}
 use Rattle.float.proofs.Fields.{at, read, digits-in, field-in, sign-is}
-use Rattle.float.proofs.Narrowing.{Narrowed, fewer, rebias, to-zero, to-subnormal, to-normal, to-infinite, to-last, narrow-no-nan}
+use Rattle.float.proofs.Narrowing.{Narrowed, to-zero, to-subnormal, to-normal, to-infinite, to-last, narrow-no-nan, rest-zero, rest-subnormal, rest-infinite}
 use Rattle.float.proofs.Pattern.{last, may-read}
 use Rattle.float.proofs.narrow.Statement.{statement}
 use Rattle.float.proofs.narrow.Tie as tie
@@ -64,31 +65,36 @@ module _ (c : tie.Else1) where
       go (inl e) = inl (to-last (leb (top binary64) b) (E b) (t b) digits e (subst (λ (v : Float). T (not (isNan v))) (sym is-x) no-nan))
       go (inr l) = inr l
 
+  -- what is no normal value of binary32
+  rest-low : E b ≤ rebias → Here (restOf (b % top binary64))
+  rest-low h = elim (decLe (E b + prec binary32) rebias) [
+    | yes l ↦ subst Here (rest-zero (b % top binary64) l) (to-zero (leb (top binary64) b) (E b) (t b) digits l)
+    | no n ↦
+        let l : rebias < E b + prec binary32 = lt-of-not-le n in
+        subst Here (ap (λ (z : ℕ). closest (z + hid binary64) (2 ^ (suc (rebias + fewer) - E b))) (sym (digits-is b)) ∙ rest-subnormal (b % top binary64) l h) (to-subnormal (leb (top binary64) b) (E b) (t b) digits l h)
+  ]
+
+  rest-high : ones binary32 + rebias ≤ E b → Here (restOf (b % top binary64))
+  rest-high h = subst Here (rest-infinite (b % top binary64) (omega arith)) (⊎-elim (λ k. k) (λ l. to-infinite (leb (top binary64) b) (E b) (t b) digits h l) in-last)
+
 -- what the arms leave, by the arm that was taken
-sized : (c : tie.Joined2) → Here (c .before) (c .if2 .rounded)
+sized : (c : tie.Joined2-2) → Here (c .before) (c .if2 .rounded)
 sized c =
     let n = c .before in
-    let s = leb (top binary64) (b n) in
-    let e = E (b n) in
-    let d = t (b n) in
-    let h = digits n in
-    ⊎-elim (λ w. subst (λ (z : ℕ). Here n z) (sym (w .1)) (to-zero s e d h (omega (arith, w .0 .taken))))
-    (⊎-elim
+    ⊎-elim
     (λ w.
-    subst (λ (z : ℕ). Here n z) (sym (w .3 ∙ w .2 .ensures ∙ ap (λ (z : ℕ). closest (z + hid binary64) (2 ^ (suc (rebias + fewer) - e))) (digits-is (b n))))
-    (to-subnormal s e d h (omega (arith, w .0 .left)) (omega (arith, w .1 .taken))))
-    (⊎-elim
+    subst (λ (z : ℕ). Here n z) (sym (w .3 ∙ w .2 .ensures))
+    (to-normal (leb (top binary64) (b n)) (E (b n)) (t (b n)) (digits n) (b n % top binary64 - rebias * hid binary64) (whole-is (b n) (w .0 .left)) (w .0 .left) (omega (arith, w .1 .taken))))
     (λ w.
-    subst (λ (z : ℕ). Here n z) (sym (w .4 ∙ w .3 .ensures))
-    (to-normal s e d h (b n % top binary64 - rebias * hid binary64) (whole-is (b n) (w .1 .left)) (w .1 .left) (omega (arith, w .2 .taken))))
-    (λ w. subst (λ (z : ℕ). Here n z) (sym (w .3)) (⊎-elim (λ k. k) (λ l. to-infinite s e d h (omega (arith, w .2 .left)) l) (in-last n)))))
+    subst (λ (z : ℕ). Here n z) (sym (w .2 ∙ w .1 .ensures))
+    (⊎-elim (λ v. rest-low n (omega (arith, v .taken))) (λ v. rest-high n (omega (arith, v .1 .left))) (w .0 .came)))
     (c .if2 .came)
 
 -- the sign's bit, and then the pattern
-abbrev signed : tie.Joined2 → ℕ
+abbrev signed : tie.Joined2-2 → ℕ
 signed c = b (c .before) / top binary64 * top binary32 % 2 ^ 64 + c .if2 .rounded
 
-narrowed : (c : tie.Joined2) → ofBits binary32 (signed c) ≡ narrowOf (x (c .before))
+narrowed : (c : tie.Joined2-2) → ofBits binary32 (signed c) ≡ narrowOf (x (c .before))
 unfolding narrowOf
 narrowed c =
     let n = c .before in
@@ -127,10 +133,8 @@ narrow-spec =
     returns
     float-to-bits-bits
     (λ c. search needs)
-    (λ c. search needs)
     (λ c κs. search needs)
-    (λ c. search needs)
-    (λ c κs. search needs)
+    (λ c κs. tt)
     add-result
     cast-result
     float-from-bits-result

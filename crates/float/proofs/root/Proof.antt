@@ -48,19 +48,19 @@ module _ (p : ℕ) (P : p < (ones binary32 + prec binary32) * hid binary32) wher
   put : ofBits binary32 (dropped binary32 (t p) * hid binary32 + rootDigits binary32 (m p) (t p)) ≡ rootAt binary32 (m p * 2 ^ t p)
   put = built-at binary32 (m p) (t p) (omega arith) (omega arith) (omega arith) (omega arith)
 
-nearest-root-requires : tie.Need-nearest-root-requires
-nearest-root-requires c κs = let p = c .before .args .pattern in omega (arith, n-lt p, n-pos p, unwrapped p)
+nearest-or-guess-requires : tie.Need-nearest-or-guess-requires
+nearest-or-guess-requires c κs = let p = c .before .args .pattern in omega (arith, n-lt p, n-pos p, unwrapped p)
 
 -- what is known after the search
-module _ (c : tie.After-nearest-root) where
+module _ (c : tie.After-nearest-or-guess) where
   abbrev p : ℕ
   p = c .before .before .args .pattern
 
   abbrev d : ℕ
-  d = c .nearest-root .result
+  d = c .nearest-or-guess .result
 
   d-is : d ≡ rootDigits binary32 (m p) (t p)
-  d-is = c .nearest-root .ensures ∙ searched p
+  d-is = c .nearest-or-guess .ensures ∙ searched p
 
   d-lt : d < 2 ^ prec binary32
   d-lt = omega (arith, d-is, few p (c .before .before .pre))
@@ -93,7 +93,7 @@ root-spec =
     (λ c. search needs)
     (λ c. search needs)
     (λ c. search needs)
-    nearest-root-requires
+    nearest-or-guess-requires
     (λ c. search needs)
     cast-result
     add-result-2

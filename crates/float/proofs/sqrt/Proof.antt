@@ -1,18 +1,17 @@
--- `float::sqrt` meets its contract. The sign's bit is tested first, and then the arms go by the field of the exponent: `Shapes.antt` says what pattern is handed to `root`. Assumes nothing.
+-- `float::sqrt` meets its contract. `Zero.antt` says what the tests against 0.0 leave, and above zero the arms go by the field of the exponent: `Shapes.antt` says what pattern is handed to `root`. Assumes nothing.
 use mathlib.Core.Path.{_≡_, refl, sym, ap, _∙_, subst}
 use mathlib.Core.Bool.{false, not}
 use Prim.Native.Nat.{ℕ, _+_, _-_, _*_, _/_, _%_, _^_, _≤_, _<_}
 use native.Mathlib.Nat.{div-eq-of-lt, mod-eq-of-lt, lt-of-lt-of-le}
 use native.Mathlib.Omega.{arith}
-use borrow.Author.Needs.{needs}
 use lib.Dec.{T, lit≤}
 use lib.Count.{leadingZeros}
-use lib.Ieee.{Float, nan, inf, binary32, prec, low, hid, ones, top, isNan, fits, toBits, ofFields}
-use lib.Ieee.Bits.{toBits-lt}
+use lib.Ieee.{Float, inf, binary32, prec, low, hid, ones, top, isNan, fits, toBits, ofFields}
 use Rattle.float.specs.Root.{raised, rootAt, rootOfRaised, sqrtAt, sqrtOf}
-use Rattle.float.proofs.Compare.{nan-of, not-nan, quotient-nan}
-use Rattle.float.proofs.Fields.{at, read, infinite-at}
-use Rattle.float.proofs.Shapes.{Shape, shape-root, shape-normal, shape-subnormal, shift, shift-of, clear-at, negative-root}
+use Rattle.float.proofs.Compare.{quotient-nan}
+use Rattle.float.proofs.Fields.{read, infinite-at}
+use Rattle.float.proofs.Shapes.{Shape, shape-root, shape-normal, shape-subnormal, shift, shift-of, clear-at}
+use Rattle.float.proofs.Zero.{above-no-nan, above-clear, above-some, zero-root, below-root}
 use Rattle.float.proofs.sqrt.Statement.{statement}
 use Rattle.float.proofs.sqrt.Tie as tie
 
@@ -24,9 +23,9 @@ width = 32
 abbrev places : ℕ → ℕ
 places n = shift binary32 width n
 
--- ---- what is known of x past the first test
+-- ---- what is known of x above zero
 
-module _ (c : tie.Else1) where
+module _ (c : tie.Then1) where
   abbrev x : Float
   x = c .before .args .x
 
@@ -37,71 +36,47 @@ module _ (c : tie.Else1) where
   held = subst T (sym (c .before .good .0 .1)) tt
 
   no-nan : T (not (isNan x))
-  no-nan = not-nan x (c .if1 .left)
+  no-nan = above-no-nan x (c .if1 .taken)
 
-  is-x : at binary32 b ≡ x
-  is-x = read binary32 x held
+  clear : b < top binary32
+  clear = above-clear x held (c .if1 .taken)
 
--- where x is a value that is its own root
-fixed : (v x : Float) → v ≡ sqrtOf v → v ≡ x → x ≡ sqrtOf x
-fixed v x h e = subst (λ (y : Float). y ≡ sqrtOf y) e h
+  some : 0 < b
+  some = above-some x held (c .if1 .taken)
 
--- with the sign's bit clear
-clear : (c : tie.Else2) → ofFields binary32 false (b (c .before) / hid binary32) (b (c .before) % hid binary32) ≡ x (c .before)
-clear c = sym (clear-at binary32 (b (c .before)) (c .if2 .left)) ∙ is-x (c .before)
+  is-x : ofFields binary32 false (b / hid binary32) (b % hid binary32) ≡ x
+  is-x = sym (clear-at binary32 b clear) ∙ read binary32 x held
 
 -- what `root` returns for the pattern p
 rooted : (p m t : ℕ) (v r : Float) → Shape binary32 v m t → p % hid binary32 + hid binary32 ≡ m → p / hid binary32 + raised binary32 ≡ t → r ≡ rootOfRaised binary32 p → r ≡ sqrtOf v
 unfolding sqrtOf
 rooted p m t v r z d e h = h ∙ ap (λ (k : ℕ). rootAt binary32 (k * 2 ^ (p / hid binary32 + raised binary32))) d ∙ ap (λ (k : ℕ). rootAt binary32 (m * 2 ^ k)) e ∙ sym (shape-root binary32 v m t z)
 
--- in the arm of the field 0, past the test for zero: x is subnormal
-module _ (c : tie.Else4) where
+-- in the arm of the field 0: x is subnormal
+module _ (c : tie.At-match-keys1) where
   abbrev n : ℕ
-  n = b (c .before .before .before)
+  n = b (c .before)
 
   small : n < hid binary32
-  small = omega (arith, c .before .match .keys1, c .before .before .if2 .left)
+  small = omega (arith, c .match .keys1, clear (c .before))
 
   shifts : (width - prec binary32 ≤ leadingZeros width n) × (places n < prec binary32) × (hid binary32 ≤ n * 2 ^ places n) × (n * 2 ^ places n < 2 ^ prec binary32)
-  shifts = shift-of binary32 width n (lit≤ tt) (omega (arith, c .if4 .left)) small
+  shifts = shift-of binary32 width n (lit≤ tt) (some (c .before)) small
 
   unwrapped : n * 2 ^ places n % 2 ^ width ≡ n * 2 ^ places n
   unwrapped = mod-eq-of-lt (lt-of-lt-of-le (shifts .3) (lit≤ tt))
 
-  shaped : Shape binary32 (x (c .before .before .before)) (n * 2 ^ places n) (low binary32 - places n)
+  shaped : Shape binary32 (x (c .before)) (n * 2 ^ places n) (low binary32 - places n)
   shaped =
       subst (λ (v : Float). Shape binary32 v (n * 2 ^ places n) (low binary32 - places n))
-      (sym (ap (λ (z : ℕ). ofFields binary32 false z (n % hid binary32)) (div-eq-of-lt small) ∙ ap (ofFields binary32 false 0) (mod-eq-of-lt small)) ∙ clear (c .before .before))
-      (shape-subnormal binary32 width n (lit≤ tt) (omega (arith, c .if4 .left)) small)
-
-returns : tie.Need-returns
-unfolding sqrtOf sqrtAt
-returns c = fixed nan (c .before .args .x) refl (sym (nan-of (c .before .args .x) (c .if1 .taken)))
+      (sym (ap (λ (z : ℕ). ofFields binary32 false z (n % hid binary32)) (div-eq-of-lt small) ∙ ap (ofFields binary32 false 0) (mod-eq-of-lt small)) ∙ is-x (c .before))
+      (shape-subnormal binary32 width n (lit≤ tt) (some (c .before)) small)
 
 float-to-bits-bits : tie.Need-float-to-bits-bits
 float-to-bits-bits c = no-nan c
 
--- -0.0
-returns-2 : tie.Need-returns-2
-unfolding sqrtOf sqrtAt ofFields
-returns-2 c = let s = c .before .before in fixed (at binary32 (top binary32)) (x s) refl (ap (at binary32) (sym (c .if3 .taken)) ∙ is-x s)
-
-returns-3 : tie.Need-returns-3
-unfolding sqrtOf
-returns-3 c =
-    let s = c .before .before in
-    let l : top binary32 < b s = omega (arith, c .before .if2 .taken, c .if3 .left) in
-    quotient-nan
-    ∙ sym (ap sqrtOf (sym (is-x s)) ∙ negative-root binary32 (b s) l (digit (b s) l (toBits-lt binary32 (x s) (held s))) (subst (λ (v : Float). T (not (isNan v))) (sym (is-x s)) (no-nan s)))
-  where
-    digit : (b : ℕ) → top binary32 < b → b < 2 * top binary32 → b % top binary32 / hid binary32 ≡ 0 → 0 < b % hid binary32
-    digit b l h e = omega arith
-
--- 0.0
-returns-4 : tie.Need-returns-4
-unfolding sqrtOf sqrtAt ofFields
-returns-4 c = let s = c .before .before .before in fixed (at binary32 0) (x s) refl (ap (at binary32) (sym (c .if4 .taken)) ∙ is-x s)
+cast-exponent : tie.Need-cast-exponent
+cast-exponent c = omega (arith, clear c)
 
 sub-zeros : tie.Need-sub-zeros
 sub-zeros c = shifts c .0
@@ -118,53 +93,57 @@ add-root c = omega (arith, shifts c .3, unwrapped c)
 root-requires : tie.Need-root-requires
 root-requires c κs = omega (arith, shifts c .3, unwrapped c)
 
-returns-5 : tie.Need-returns-5
-returns-5 c =
-    let l = c .before in
-    let s = places (n l) in
-    rooted (n l * 2 ^ s % 2 ^ width + (prec binary32 - s) * hid binary32 % 2 ^ width) (n l * 2 ^ s) (low binary32 - s) (x (l .before .before .before)) (c .root .result) (shaped l)
-    (omega (arith, shifts l, unwrapped l))
-    (omega (arith, shifts l, unwrapped l))
+returns : tie.Need-returns
+returns c =
+    let k = c .before in
+    let s = places (n k) in
+    rooted (n k * 2 ^ s % 2 ^ width + (prec binary32 - s) * hid binary32 % 2 ^ width) (n k * 2 ^ s) (low binary32 - s) (x (k .before)) (c .root .result) (shaped k)
+    (omega (arith, shifts k, unwrapped k))
+    (omega (arith, shifts k, unwrapped k))
     (c .root .ensures)
 
 -- the infinity
-returns-6 : tie.Need-returns-6
+returns-2 : tie.Need-returns-2
 unfolding sqrtOf sqrtAt
-returns-6 c =
-    let s = c .before .before in
-    let e = clear (c .before) in
-    let k : b s / hid binary32 ≡ ones binary32 = omega (arith, c .match .keys2, c .before .if2 .left) in
-    fixed (inf false) (x s) refl (sym (infinite-at binary32 false (b s / hid binary32) (b s % hid binary32) k (subst (λ (v : Float). T (not (isNan v))) (sym e) (no-nan s))) ∙ e)
+returns-2 c =
+    let s = c .before in
+    let k : b s / hid binary32 ≡ ones binary32 = omega (arith, c .match .keys2, clear s) in
+    let e : inf false ≡ x s = sym (infinite-at binary32 false (b s / hid binary32) (b s % hid binary32) k (subst (λ (v : Float). T (not (isNan v))) (sym (is-x s)) (no-nan s))) ∙ is-x s in
+    subst (λ (v : Float). v ≡ sqrtOf v) e refl
 
-returns-7 : tie.Need-returns-7
-returns-7 c =
+returns-3 : tie.Need-returns-3
+returns-3 c =
     let m = c .before in
-    let n = b (m .before .before) in
+    let n = b (m .before) in
     let E = n / hid binary32 in
     let t = n % hid binary32 in
-    rooted (n + prec binary32 * hid binary32) (t + hid binary32) (E + (low binary32 - 1)) (x (m .before .before)) (c .root2 .result)
-    (subst (λ (v : Float). Shape binary32 v (t + hid binary32) (E + (low binary32 - 1))) (clear (m .before)) (shape-normal binary32 E t (omega arith) (omega (arith, m .match .rest .0 .1)) (omega (arith, m .match .rest .1, m .before .if2 .left))))
+    rooted (n + prec binary32 * hid binary32) (t + hid binary32) (E + (low binary32 - 1)) (x (m .before)) (c .root2 .result)
+    (subst (λ (v : Float). Shape binary32 v (t + hid binary32) (E + (low binary32 - 1))) (is-x (m .before)) (shape-normal binary32 E t (omega arith) (omega (arith, m .match .rest .0 .1)) (omega (arith, m .match .rest .1, clear (m .before)))))
     (omega arith)
     (omega arith)
     (c .root2 .ensures)
+
+returns-4 : tie.Need-returns-4
+returns-4 c = zero-root (c .before .before .args .x) (c .if2 .taken)
+
+returns-5 : tie.Need-returns-5
+returns-5 c = quotient-nan ∙ sym (below-root (c .before .before .args .x) (c .before .if1 .left) (c .if2 .left))
 
 pub sqrt-spec : {M : Type 1} → statement M
 sqrt-spec =
     tie.close
     (tie.spec
-    returns
     float-to-bits-bits
-    returns-2
-    returns-3
-    (λ c. search needs)
-    returns-4
+    cast-exponent
     sub-zeros
     shl-root
     sub-root
     add-root
     root-requires
-    (λ c. search needs)
-    (λ c κs. search needs)
-    returns-5
-    returns-6
-    returns-7)
+    (λ c. omega (arith, clear (c .before)))
+    (λ c κs. omega (arith, clear (c .before), c .match .rest))
+    returns
+    returns-2
+    returns-3
+    returns-4
+    returns-5)
