@@ -135,14 +135,29 @@ impl Vector3f {
 }
 
 // The cross product of two vectors by their parts, which stay in registers: a vector that is handed over in memory
-// and read whole right after it was written by parts costs more than the products.
+// and read whole right after it was written by parts costs more than the products. One test finds whether a NaN is among
+// them; a number is widened without one.
 fn cross_parts(ax: f32, ay: f32, az: f32, bx: f32, by: f32, bz: f32) -> Vector3f
     ensures { λ r. ⌜ r ≡ crossOf (vectorOf ax ay az) (vectorOf bx by bz) ⌝ }
 {
-    Vector3f {
-        x: minor(ay, bz, az, by),
-        y: minor(az, bx, ax, bz),
-        z: minor(ax, by, ay, bx),
+    if (ax != ax) | (ay != ay) | (az != az) | (bx != bx) | (by != by) | (bz != bz) {
+        Vector3f {
+            x: minor(ay, bz, az, by),
+            y: minor(az, bx, ax, bz),
+            z: minor(ax, by, ay, bx),
+        }
+    } else {
+        let x1 = ax as f64;
+        let y1 = ay as f64;
+        let z1 = az as f64;
+        let x2 = bx as f64;
+        let y2 = by as f64;
+        let z2 = bz as f64;
+        Vector3f {
+            x: float::narrow(y1 * z2 - z1 * y2),
+            y: float::narrow(z1 * x2 - x1 * z2),
+            z: float::narrow(x1 * y2 - y1 * x2),
+        }
     }
 }
 
