@@ -108,6 +108,7 @@ exchangeColumns m i j = swapAt (swapAt (swapAt (swapAt m i j) (4 + i) (4 + j)) (
 unfoldable pub swapColumns : Matrix → ℕ → ℕ → Matrix
 swapColumns m i j = cond (eqb i j) m (exchangeColumns m i j)
 
+-- the whole; indxr[i] and indxc[i] are the row and the col of the pivot of turn i, and the last loop goes through them from 3 to 0
 unfoldable pub inverseFlat : Matrix → Matrix
 inverseFlat m =
     let i0 : List ℕ = 0 ∷ 0 ∷ 0 ∷ 0 ∷ [] in

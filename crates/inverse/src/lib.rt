@@ -205,18 +205,27 @@ fn swap_columns(m: &mut [f32; 16], i: usize, j: usize)
     exchange_columns(m, i, j);
 }
 
-pub fn inverse_flat(m: [f32; 16]) -> [f32; 16]
-    ensures { λ r. ⌜ r ≡ inverseFlat m ⌝ }
+// The inverse of what is lent, in its place.
+pub fn invert(v: &mut [f32; 16])
+    ensures { λ _. ⌜ now (v .exit) ≡ inverseFlat (now (v .entry)) ⌝ }
 {
-    let mut v = m;
+    let mut indxc = [0usize; 4];
+    let mut indxr = [0usize; 4];
     let mut ipiv = [0usize; 4];
-    let p0 = turn(&mut v, &mut ipiv);
-    let p1 = turn(&mut v, &mut ipiv);
-    let p2 = turn(&mut v, &mut ipiv);
-    let p3 = turn(&mut v, &mut ipiv);
-    swap_columns(&mut v, p3.row, p3.col);
-    swap_columns(&mut v, p2.row, p2.col);
-    swap_columns(&mut v, p1.row, p1.col);
-    swap_columns(&mut v, p0.row, p0.col);
-    v
+    let p0 = turn(v, &mut ipiv);
+    indxr[0] = p0.row;
+    indxc[0] = p0.col;
+    let p1 = turn(v, &mut ipiv);
+    indxr[1] = p1.row;
+    indxc[1] = p1.col;
+    let p2 = turn(v, &mut ipiv);
+    indxr[2] = p2.row;
+    indxc[2] = p2.col;
+    let p3 = turn(v, &mut ipiv);
+    indxr[3] = p3.row;
+    indxc[3] = p3.col;
+    swap_columns(v, indxr[3], indxc[3]);
+    swap_columns(v, indxr[2], indxc[2]);
+    swap_columns(v, indxr[1], indxc[1]);
+    swap_columns(v, indxr[0], indxc[0]);
 }
