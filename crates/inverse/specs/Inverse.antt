@@ -96,9 +96,13 @@ clearRow m icol j = cond (eqb j icol) m (cleared m icol j)
 unfoldable pub eliminated : Matrix → ℕ → Matrix
 eliminated m icol = clearRow (clearRow (clearRow (clearRow m icol 0) icol 1) icol 2) icol 3
 
+-- both, after the exchange of rows
+abbrev pub reduced : Matrix → ℕ → Matrix
+reduced m icol = eliminated (scaleRow m icol) icol
+
 -- what the body of for i in 0..4 does to minv, with the pivot p
 unfoldable pub turned : Matrix → Pivot → Matrix
-turned m p = eliminated (scaleRow (swapRows m (p .row) (p .col)) (p .col)) (p .col)
+turned m p = reduced (swapRows m (p .row) (p .col)) (p .col)
 
 -- for k in 0..4 { minv.m[k].swap(i, j) }
 unfoldable pub exchangeColumns : Matrix → ℕ → ℕ → Matrix

@@ -4,7 +4,7 @@
 ghost use mathlib.Core.Path.{_≡_};
 ghost use mathlib.Core.Logic.{_≢_};
 ghost use Prim.Native.Nat.{_<_};
-ghost use Rattle.inverse.specs.Inverse.{Placed, AtMost, columnTaken, lookEntry, lookAlong, lookRow, pivotOf, swapAt, exchangeRows, swapRows, butAt, scaleRow, cleared, clearRow, eliminated, turned, exchangeColumns, swapColumns, inverseFlat};
+ghost use Rattle.inverse.specs.Inverse.{Placed, AtMost, columnTaken, lookEntry, lookAlong, lookRow, pivotOf, swapAt, exchangeRows, swapRows, butAt, scaleRow, cleared, clearRow, eliminated, reduced, turned, exchangeColumns, swapColumns, inverseFlat};
 
 // The pivot found so far: big, irow and icol.
 pub struct Pivot {
@@ -161,6 +161,28 @@ fn eliminate(m: &mut [f32; 16], c: usize)
     clear_row(m, c, 3);
 }
 
+// The pivot's row divided by the pivot, and taken from the others.
+fn reduce(m: &mut [f32; 16], c: usize)
+    requires { ⌜ c < 4 ⌝ }
+    ensures { λ _. ⌜ now (m .exit) ≡ reduced (now (m .entry)) c ⌝ }
+{
+    scale_row(m, c);
+    eliminate(m, c);
+}
+
+// A call for each column: in each every index is a constant, and no test of the column is left.
+fn reduce_by_column(m: &mut [f32; 16], c: usize)
+    requires { ⌜ c < 4 ⌝ }
+    ensures { λ _. ⌜ now (m .exit) ≡ reduced (now (m .entry)) c ⌝ }
+{
+    match c {
+        0 => reduce(m, 0),
+        1 => reduce(m, 1),
+        2 => reduce(m, 2),
+        _ => reduce(m, 3),
+    }
+}
+
 // ipiv[c] += 1
 fn mark(ipiv: &mut [usize; 4], c: usize)
     requires { ⌜ (c < 4) × AtMost 3 (now ipiv) ⌝ }
@@ -180,8 +202,7 @@ fn turn(m: &mut [f32; 16], ipiv: &mut [usize; 4]) -> Pivot
     let col = p.col;
     mark(ipiv, col);
     swap_rows(m, row, col);
-    scale_row(m, col);
-    eliminate(m, col);
+    reduce_by_column(m, col);
     p
 }
 
