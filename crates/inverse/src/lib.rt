@@ -13,12 +13,16 @@ pub struct Pivot {
     pub col: usize,
 }
 
-// The entry x at row j and column k, whose mark is ipiv[k].
+// The entry x at row j and column k, whose mark is ipiv[k]. A NaN is told apart first, which abs would do anyway: so
+// nothing that follows has to reckon with one.
 fn look(p: Pivot, mark: usize, j: usize, k: usize, x: f32) -> Pivot
     requires { ⌜ Placed p × (j < 4) × (k < 4) ⌝ }
     ensures { λ r. ⌜ (r ≡ lookEntry p mark j k x) × Placed r ⌝ }
 {
     if mark == 0 {
+        if x != x {
+            return p;
+        }
         let a = float::abs(x);
         if a >= p.big {
             return Pivot {
