@@ -96,9 +96,13 @@ clearRow m icol j = cond (eqb j icol) m (cleared m icol j)
 unfoldable pub eliminated : Matrix → ℕ → Matrix
 eliminated m icol = clearRow (clearRow (clearRow (clearRow m icol 0) icol 1) icol 2) icol 3
 
+-- both, after the exchange of rows
+abbrev pub reduced : Matrix → ℕ → Matrix
+reduced m icol = eliminated (scaleRow m icol) icol
+
 -- what the body of for i in 0..4 does to minv, with the pivot p
 unfoldable pub turned : Matrix → Pivot → Matrix
-turned m p = eliminated (scaleRow (swapRows m (p .row) (p .col)) (p .col)) (p .col)
+turned m p = reduced (swapRows m (p .row) (p .col)) (p .col)
 
 -- for k in 0..4 { minv.m[k].swap(i, j) }
 unfoldable pub exchangeColumns : Matrix → ℕ → ℕ → Matrix
@@ -108,6 +112,7 @@ exchangeColumns m i j = swapAt (swapAt (swapAt (swapAt m i j) (4 + i) (4 + j)) (
 unfoldable pub swapColumns : Matrix → ℕ → ℕ → Matrix
 swapColumns m i j = cond (eqb i j) m (exchangeColumns m i j)
 
+-- the whole; indxr[i] and indxc[i] are the row and the col of the pivot of turn i, and the last loop goes through them from 3 to 0
 unfoldable pub inverseFlat : Matrix → Matrix
 inverseFlat m =
     let i0 : List ℕ = 0 ∷ 0 ∷ 0 ∷ 0 ∷ [] in

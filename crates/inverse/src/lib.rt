@@ -4,7 +4,7 @@
 ghost use mathlib.Core.Path.{_≡_};
 ghost use mathlib.Core.Logic.{_≢_};
 ghost use Prim.Native.Nat.{_<_};
-ghost use Rattle.inverse.specs.Inverse.{Placed, AtMost, columnTaken, lookEntry, lookAlong, lookRow, pivotOf, swapAt, exchangeRows, swapRows, butAt, scaleRow, cleared, clearRow, eliminated, turned, exchangeColumns, swapColumns, inverseFlat};
+ghost use Rattle.inverse.specs.Inverse.{Placed, AtMost, columnTaken, lookEntry, lookAlong, lookRow, pivotOf, swapAt, exchangeRows, swapRows, butAt, scaleRow, cleared, clearRow, eliminated, reduced, turned, exchangeColumns, swapColumns, inverseFlat};
 
 // The pivot found so far: big, irow and icol.
 pub struct Pivot {
@@ -13,12 +13,16 @@ pub struct Pivot {
     pub col: usize,
 }
 
-// The entry x at row j and column k, whose mark is ipiv[k].
+// The entry x at row j and column k, whose mark is ipiv[k]. A NaN is told apart first, which abs would do anyway: so
+// nothing that follows has to reckon with one.
 fn look(p: Pivot, mark: usize, j: usize, k: usize, x: f32) -> Pivot
     requires { ⌜ Placed p × (j < 4) × (k < 4) ⌝ }
     ensures { λ r. ⌜ (r ≡ lookEntry p mark j k x) × Placed r ⌝ }
 {
     if mark == 0 {
+        if x != x {
+            return p;
+        }
         let a = float::abs(x);
         if a >= p.big {
             return Pivot {
@@ -161,6 +165,28 @@ fn eliminate(m: &mut [f32; 16], c: usize)
     clear_row(m, c, 3);
 }
 
+// The pivot's row divided by the pivot, and taken from the others.
+fn reduce(m: &mut [f32; 16], c: usize)
+    requires { ⌜ c < 4 ⌝ }
+    ensures { λ _. ⌜ now (m .exit) ≡ reduced (now (m .entry)) c ⌝ }
+{
+    scale_row(m, c);
+    eliminate(m, c);
+}
+
+// A call for each column: in each every index is a constant, and no test of the column is left.
+fn reduce_by_column(m: &mut [f32; 16], c: usize)
+    requires { ⌜ c < 4 ⌝ }
+    ensures { λ _. ⌜ now (m .exit) ≡ reduced (now (m .entry)) c ⌝ }
+{
+    match c {
+        0 => reduce(m, 0),
+        1 => reduce(m, 1),
+        2 => reduce(m, 2),
+        _ => reduce(m, 3),
+    }
+}
+
 // ipiv[c] += 1
 fn mark(ipiv: &mut [usize; 4], c: usize)
     requires { ⌜ (c < 4) × AtMost 3 (now ipiv) ⌝ }
@@ -180,8 +206,7 @@ fn turn(m: &mut [f32; 16], ipiv: &mut [usize; 4]) -> Pivot
     let col = p.col;
     mark(ipiv, col);
     swap_rows(m, row, col);
-    scale_row(m, col);
-    eliminate(m, col);
+    reduce_by_column(m, col);
     p
 }
 
@@ -205,18 +230,27 @@ fn swap_columns(m: &mut [f32; 16], i: usize, j: usize)
     exchange_columns(m, i, j);
 }
 
-pub fn inverse_flat(m: [f32; 16]) -> [f32; 16]
-    ensures { λ r. ⌜ r ≡ inverseFlat m ⌝ }
+// The inverse of what is lent, in its place.
+pub fn invert(v: &mut [f32; 16])
+    ensures { λ _. ⌜ now (v .exit) ≡ inverseFlat (now (v .entry)) ⌝ }
 {
-    let mut v = m;
+    let mut indxc = [0usize; 4];
+    let mut indxr = [0usize; 4];
     let mut ipiv = [0usize; 4];
-    let p0 = turn(&mut v, &mut ipiv);
-    let p1 = turn(&mut v, &mut ipiv);
-    let p2 = turn(&mut v, &mut ipiv);
-    let p3 = turn(&mut v, &mut ipiv);
-    swap_columns(&mut v, p3.row, p3.col);
-    swap_columns(&mut v, p2.row, p2.col);
-    swap_columns(&mut v, p1.row, p1.col);
-    swap_columns(&mut v, p0.row, p0.col);
-    v
+    let p0 = turn(v, &mut ipiv);
+    indxr[0] = p0.row;
+    indxc[0] = p0.col;
+    let p1 = turn(v, &mut ipiv);
+    indxr[1] = p1.row;
+    indxc[1] = p1.col;
+    let p2 = turn(v, &mut ipiv);
+    indxr[2] = p2.row;
+    indxc[2] = p2.col;
+    let p3 = turn(v, &mut ipiv);
+    indxr[3] = p3.row;
+    indxc[3] = p3.col;
+    swap_columns(v, indxr[3], indxc[3]);
+    swap_columns(v, indxr[2], indxc[2]);
+    swap_columns(v, indxr[1], indxc[1]);
+    swap_columns(v, indxr[0], indxc[0]);
 }

@@ -47,6 +47,13 @@ pub fn matrix_from(s: &[f32], at: usize) -> Matrix4x4
     }
 }
 
+// All of an array as a matrix. An array has its length by its type, also after it was worked on in place.
+fn matrix_of(v: &[f32; MATRIX_FLOATS]) -> Matrix4x4
+    ensures { λ r. ⌜ r ≡ matrixFrom (now (v .entry)) 0 ⌝ }
+{
+    matrix_from(v, 0)
+}
+
 // A matrix as floats, row by row: matrix_from reads it back.
 pub fn flatten(m: Matrix4x4) -> [f32; MATRIX_FLOATS]
     ensures { λ r. ⌜ r ≡ flat m ⌝ }
@@ -106,7 +113,8 @@ impl Matrix4x4 {
     pub fn inverse(self) -> Matrix4x4
         ensures { λ r. ⌜ r ≡ inverseOf self ⌝ }
     {
-        let v = inverse::inverse_flat(flatten(self));
-        matrix_from(&v, 0)
+        let mut v = flatten(self);
+        inverse::invert(&mut v);
+        matrix_of(&v)
     }
 }

@@ -7,12 +7,11 @@ use Rattle.inverse.proofs.turn.Tie as tie
 returns : tie.Need-returns
 unfolding turned
 returns c =
-    let b = c .before .before .before .before .before .before in
+    let b = c .before .before .before .before in
     let f = b .before .before .find-pivot in
     (f .ensures, (cc, b .mark .ensures))
 
 pub turn-spec : {M : Type 1} → statement M
 turn-spec =
     tie.close
-    (tie.spec (λ c κs. search needs) (λ c κs. search needs) (λ c κs. search needs) (λ c κs. search needs)
-    (λ c κs. search needs) returns)
+    (tie.spec (λ c κs. search needs) (λ c κs. search needs) (λ c κs. search needs) (λ c κs. search needs) returns)

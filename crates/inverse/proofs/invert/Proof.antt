@@ -1,4 +1,4 @@
--- `inverse::inverse_flat` meets its contract. Each turn takes one column, so before turn n no column was taken more than n times. Assumes nothing.
+-- `inverse::invert` meets its contract. Each turn takes one column, so before turn n no column was taken more than n times. Assumes nothing.
 use borrow.Author.Needs.{needs}
 use mathlib.Core.Path.{_≡_, sym, subst}
 use mathlib.Core.List.{List, [], _∷_}
@@ -7,8 +7,8 @@ use native.Mathlib.Omega.{arith}
 use lib.ListN.{getD, set, getD-replicate}
 use Rattle.inverse.specs.Inverse.{AtMost, Matrix, columnTaken, pivotOf, turned, swapColumns, inverseFlat}
 use Rattle.inverse.specs.declared.Pivot.{Pivot}
-use Rattle.inverse.proofs.inverse_flat.Statement.{statement}
-use Rattle.inverse.proofs.inverse_flat.Tie as tie
+use Rattle.inverse.proofs.invert.Statement.{statement}
+use Rattle.inverse.proofs.invert.Tie as tie
 
 set-le : (l : List ℕ) (k v j n : ℕ) → getD l j 0 ≤ n → v ≤ n → getD (set l k v) j 0 ≤ n
 set-le [] k v j n h g = h
@@ -88,8 +88,14 @@ returns c =
     (t3 .turn4 .ensures .0 .0) (t3 .turn4 .ensures .1 .0)
     (s0 .swap-columns .ensures) (s1 .swap-columns2 .ensures) (s2 .swap-columns3 .ensures) (c .swap-columns4 .ensures)
 
-pub inverse-flat-spec : {M : Type 1} → statement M
-inverse-flat-spec =
+pub invert-spec : {M : Type 1} → statement M
+invert-spec =
     tie.close
-    (tie.spec turn-requires turn-requires-2 turn-requires-3 turn-requires-4 (λ c κs. search needs) (λ c κs. search needs)
-    (λ c κs. search needs) swap-columns-requires-4 returns)
+    (tie.spec turn-requires (λ c. search needs) (λ c. search needs)
+    turn-requires-2 (λ c. search needs) (λ c. search needs)
+    turn-requires-3 (λ c. search needs) (λ c. search needs)
+    turn-requires-4 (λ c. search needs) (λ c. search needs)
+    (λ c. search needs) (λ c. search needs) (λ c κs. search needs)
+    (λ c. search needs) (λ c. search needs) (λ c κs. search needs)
+    (λ c. search needs) (λ c. search needs) (λ c κs. search needs)
+    (λ c. search needs) (λ c. search needs) swap-columns-requires-4 returns)
