@@ -6,7 +6,11 @@ use Rattle.inverse.proofs.find_pivot.Tie as tie
 
 returns : tie.Need-returns
 unfolding pivotOf
-returns c = (cc, search needs)
+returns c =
+    let c3 = c .before in
+    let c2 = c3 .before in
+    let c1 = c2 .before in
+    (rw (c .look-row4 .ensures .0, c3 .look-row3 .ensures .0, c2 .look-row2 .ensures .0, c1 .look-row .ensures .0), c .look-row4 .ensures .1)
 
 pub find-pivot-spec : {M : Type 1} → statement M
 find-pivot-spec =

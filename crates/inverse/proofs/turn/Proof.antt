@@ -7,9 +7,9 @@ use Rattle.inverse.proofs.turn.Tie as tie
 returns : tie.Need-returns
 unfolding turned
 returns c =
-    let b = c .before .before .before .before in
-    let f = b .before .before .find-pivot in
-    (f .ensures, (cc, b .mark .ensures))
+    let s = c .before .before in
+    let b = s .before .before in
+    (b .before .before .find-pivot .ensures, (rw (c .reduce-by-column .ensures, s .swap-rows .ensures), b .mark .ensures))
 
 pub turn-spec : {M : Type 1} → statement M
 turn-spec =
