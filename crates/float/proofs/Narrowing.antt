@@ -15,7 +15,7 @@ use lib.Ieee.Bits.{ofBits-toBits}
 use lib.Ieee.Exact.{HasValue, round-exact}
 use lib.Ieee.Nearest.{closest}
 use lib.Ieee.Scale.{round-same}
-use Rattle.float.specs.Narrow.{fewer, rebias, restOf, narrowAt}
+use Rattle.float.specs.Narrow.{fewer, rebias, narrowRest, narrowAt}
 use Rattle.float.proofs.Closest.{closest-zero, closest-plus, closest-le, closest-ge}
 use Rattle.float.proofs.Pattern.{join, twice, last, in-reach, pattern, built, same-value, round-no-nan}
 use Rattle.float.proofs.Fields.{read, significand, significand-lt, digits-in, field-in, finite-at, infinite-at}
@@ -199,20 +199,20 @@ module _ (s : Bool) (E t : ℕ) (H : t < hid binary64) where
   pub to-last : E ≡ ones binary64 → T (not (isNan (ofFields binary64 s E t))) → Narrowed (last binary32)
   to-last = arm-last binary32 binary64 s E t
 
--- ---- `restOf`, by its three cases
+-- ---- `narrowRest`, by its three cases
 
 module _ (n : ℕ) where
   abbrev E : ℕ
   E = n / hid binary64
 
-  pub rest-zero : E + prec binary32 ≤ rebias → 0 ≡ restOf n
-  unfolding restOf
+  pub rest-zero : E + prec binary32 ≤ rebias → 0 ≡ narrowRest n
+  unfolding narrowRest
   rest-zero h = rw (le-leb _ _ h) refl
 
-  pub rest-subnormal : rebias < E + prec binary32 → E ≤ rebias → closest (n % hid binary64 + hid binary64) (2 ^ (suc (rebias + fewer) - E)) ≡ restOf n
-  unfolding restOf
+  pub rest-subnormal : rebias < E + prec binary32 → E ≤ rebias → closest (n % hid binary64 + hid binary64) (2 ^ (suc (rebias + fewer) - E)) ≡ narrowRest n
+  unfolding narrowRest
   rest-subnormal l h = rw (lt-leb _ _ l, le-leb _ _ h) refl
 
-  pub rest-infinite : rebias < E → last binary32 ≡ restOf n
-  unfolding restOf
+  pub rest-infinite : rebias < E → last binary32 ≡ narrowRest n
+  unfolding narrowRest
   rest-infinite l = rw (lt-leb (E + prec binary32) rebias (omega arith), lt-leb E rebias l) refl

@@ -27,7 +27,7 @@ abbrev pub rebias : ℕ
 rebias = emax binary64 - emax binary32
 
 -- What `narrow_rest` gives for a pattern of binary64, both without their signs: nothing for what is below half of the least subnormal, what is nearest for a subnormal, and otherwise an infinity's pattern.
-unfoldable pub restOf : ℕ → ℕ
-restOf n =
+unfoldable pub narrowRest : ℕ → ℕ
+narrowRest n =
     let E = n / hid binary64 in
     cond (leb (E + prec binary32) rebias) 0 (cond (leb E rebias) (closest (n % hid binary64 + hid binary64) (2 ^ (suc (rebias + fewer) - E))) (ones binary32 * hid binary32))

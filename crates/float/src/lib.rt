@@ -5,7 +5,7 @@ ghost use Prim.Native.Nat.{suc, _+_, _*_, _/_, _%_, _^_, _≤_, _<_};
 ghost use lib.Ieee.{binary32, prec, hid, ones, ofBits, toBits};
 ghost use lib.Ieee.Nearest.{closest};
 ghost use Rattle.float.specs.Basic.{absOf, maxOf, minOf};
-ghost use Rattle.float.specs.Narrow.{narrowOf, restOf, spare};
+ghost use Rattle.float.specs.Narrow.{narrowOf, narrowRest, spare};
 ghost use Rattle.float.specs.Root.{isqrt, rootOfRaised, sqrtOf};
 
 mod guess;
@@ -97,7 +97,7 @@ pub fn narrow(x: f64) -> f32
 
 // The rounded pattern of `narrow` for what is no normal value of f32, by its pattern, without signs.
 fn narrow_rest(magnitude: u64) -> u64
-    ensures { λ r. ⌜ r ≡ restOf magnitude ⌝ }
+    ensures { λ r. ⌜ r ≡ narrowRest magnitude ⌝ }
 {
     let exponent = magnitude >> 52;
     match exponent {

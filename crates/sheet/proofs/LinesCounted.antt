@@ -16,7 +16,6 @@ use Rattle.limits.specs.Refusal.{Table, firstOf, told}
 use Rattle.text.specs.Ascii.{ascii}
 use Rattle.text.specs.Bytes.{allBelow, byteIs}
 use Rattle.create.specs.Create.{limitRefusals, createRefusals, createdOf}
-use Rattle.create.specs.declared.create.Created.{Created}
 use Rattle.create.specs.declared.create.Created.the-variants as created
 use Rattle.create.specs.declared.create.Params.{Params}
 use Rattle.grammar.specs.Grammar.{mostBytes, lineFeed, isRow, rowSize, pointKey, rayKey, runBelow, rowsFrom, lineAt}

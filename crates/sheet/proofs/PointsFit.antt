@@ -1,7 +1,7 @@
 -- The points of a sheet of at most 65,536 bytes are fewer than the room for them, so that the room cuts none off. Assumes nothing.
 use mathlib.Core.Bool.{Bool, true, false, cond}
 use mathlib.Core.List.{List}
-use mathlib.Core.Path.{_≡_, refl, ap, sym, _∙_}
+use mathlib.Core.Path.{_≡_, refl, ap}
 use Prim.Native.Nat.{ℕ, zero, suc, _+_, _*_, _<_, _≤_}
 use native.Mathlib.Nat.{le-refl, suc-mul, zero-mul}
 use native.Mathlib.Omega.{arith}

@@ -11,7 +11,7 @@ use lib.Dec.{T, leb}
 use lib.Ieee.{Float, binary32, binary64, prec, hid, ones, top, isNan, fits, ofBits, toBits}
 use lib.Ieee.Bits.{toBits-lt}
 use lib.Ieee.Nearest.{closest}
-use Rattle.float.specs.Narrow.{fewer, rebias, restOf, narrowAt, narrowOf}
+use Rattle.float.specs.Narrow.{fewer, rebias, narrowRest, narrowAt, narrowOf}
 use Rattle.float.proofs.Compare.{quotient-nan, nan-of, not-nan}
 use Rattle.float.proofs.Fields.{at, read, digits-in, field-in, sign-is}
 use Rattle.float.proofs.Narrowing.{Narrowed, to-zero, to-subnormal, to-normal, to-infinite, to-last, narrow-no-nan, rest-zero, rest-subnormal, rest-infinite}
@@ -66,7 +66,7 @@ module _ (c : tie.Else1) where
       go (inr l) = inr l
 
   -- what is no normal value of binary32
-  rest-low : E b ≤ rebias → Here (restOf (b % top binary64))
+  rest-low : E b ≤ rebias → Here (narrowRest (b % top binary64))
   rest-low h = elim (decLe (E b + prec binary32) rebias) [
     | yes l ↦ subst Here (rest-zero (b % top binary64) l) (to-zero (leb (top binary64) b) (E b) (t b) digits l)
     | no n ↦
@@ -74,7 +74,7 @@ module _ (c : tie.Else1) where
         subst Here (ap (λ (z : ℕ). closest (z + hid binary64) (2 ^ (suc (rebias + fewer) - E b))) (sym (digits-is b)) ∙ rest-subnormal (b % top binary64) l h) (to-subnormal (leb (top binary64) b) (E b) (t b) digits l h)
   ]
 
-  rest-high : ones binary32 + rebias ≤ E b → Here (restOf (b % top binary64))
+  rest-high : ones binary32 + rebias ≤ E b → Here (narrowRest (b % top binary64))
   rest-high h = subst Here (rest-infinite (b % top binary64) (omega arith)) (⊎-elim (λ k. k) (λ l. to-infinite (leb (top binary64) b) (E b) (t b) digits h l) in-last)
 
 -- what the arms leave, by the arm that was taken
