@@ -42,14 +42,14 @@ pub enum Framed {
 fn up_vector(d: Vector3f, chord: Vector3f) -> Divided
     ensures { λ r. ⌜ r ≡ upVector d chord ⌝ }
 {
-    let dx = d.cross(chord);
-    let length_squared = dx.length_squared();
-    if length_squared == 0.0 {
+    let crossed = d.cross_squared(chord);
+    if crossed.length_squared == 0.0 {
         match vec3_coordinate_system(d) {
             CoordinateSystem::Axes(dx, _) => Divided::Vector(dx),
             CoordinateSystem::ZeroLength => Divided::ByZero,
         }
     } else {
+        let dx = crossed.v;
         Divided::Vector(dx)
     }
 }

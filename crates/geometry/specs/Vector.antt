@@ -12,6 +12,7 @@ use Rattle.geometry.specs.declared.vector.Vector2f.{Vector2f}
 use Rattle.geometry.specs.declared.vector.Vector3f.{Vector3f}
 use Rattle.geometry.specs.declared.vector.Divided.{Divided}
 use Rattle.geometry.specs.declared.vector.Divided.the-variants.{Vector, ByZero}
+use Rattle.geometry.specs.declared.vector.Crossed.{Crossed}
 use Rattle.geometry.specs.declared.vector.CoordinateSystem.{CoordinateSystem}
 use Rattle.geometry.specs.declared.vector.CoordinateSystem.the-variants.{Axes, ZeroLength}
 
@@ -72,6 +73,10 @@ crossOf v w =
       y = minorOf (v .z) (w .x) (v .x) (w .z);
       z = minorOf (v .x) (w .y) (v .y) (w .x);
     }
+
+-- the cross product with the square of its length
+unfoldable pub crossedOf : Vector3f → Vector3f → Crossed
+crossedOf a b = record { v = crossOf a b; «length_squared» = lengthSquared (crossOf a b) }
 
 -- ---- vec3_coordinate_system
 

@@ -23,6 +23,7 @@ pub use ray::RAY_FLOATS;
 pub use ray::Ray;
 pub use ray::ray_from;
 pub use vector::CoordinateSystem;
+pub use vector::Crossed;
 pub use vector::Divided;
 pub use vector::Vector2f;
 pub use vector::Vector3f;

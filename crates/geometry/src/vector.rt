@@ -2,7 +2,7 @@
 ghost use mathlib.Core.Path.{_≡_};
 ghost use Prim.Native.Nat.{_+_, _≤_};
 ghost use lib.ListN.{length};
-ghost use Rattle.geometry.specs.Vector.{vectorFrom, negated2, dot2, lengthSquared2, negated, scaled, divided, dotOf, absolute, lengthSquared, lengthOf, normalized, minorOf, vectorOf, crossOf, axesOf, coordinateSystem};
+ghost use Rattle.geometry.specs.Vector.{vectorFrom, negated2, dot2, lengthSquared2, negated, scaled, divided, dotOf, absolute, lengthSquared, lengthOf, normalized, minorOf, vectorOf, crossOf, crossedOf, axesOf, coordinateSystem};
 
 pub struct Vector2f {
     pub x: f32,
@@ -130,22 +130,47 @@ impl Vector3f {
     pub fn cross(self, v: Vector3f) -> Vector3f
         ensures { λ r. ⌜ r ≡ crossOf self v ⌝ }
     {
+        let crossed = self.cross_squared(v);
+        crossed.v
+    }
+
+    pub fn cross_squared(self, v: Vector3f) -> Crossed
+        ensures { λ r. ⌜ r ≡ crossedOf self v ⌝ }
+    {
         cross_parts(self.x, self.y, self.z, v.x, v.y, v.z)
+    }
+}
+
+// A cross product with the square of its length, summed while its parts are in registers: what is read back right after
+// it was written costs more than the sum.
+pub struct Crossed {
+    pub v: Vector3f,
+    pub length_squared: f32,
+}
+
+// A vector by its parts, with the square of its length.
+fn squared(x: f32, y: f32, z: f32) -> Crossed
+    ensures { λ r. ⌜ r .v ≡ vectorOf x y z ⌝ }
+    ensures { λ r. ⌜ r .«length_squared» ≡ lengthSquared (vectorOf x y z) ⌝ }
+{
+    Crossed {
+        v: Vector3f { x, y, z },
+        length_squared: x * x + y * y + z * z,
     }
 }
 
 // The cross product of two vectors by their parts, which stay in registers: a vector that is handed over in memory
 // and read whole right after it was written by parts costs more than the products. One test finds whether a NaN is among
 // them; a number is widened without one.
-fn cross_parts(ax: f32, ay: f32, az: f32, bx: f32, by: f32, bz: f32) -> Vector3f
-    ensures { λ r. ⌜ r ≡ crossOf (vectorOf ax ay az) (vectorOf bx by bz) ⌝ }
+fn cross_parts(ax: f32, ay: f32, az: f32, bx: f32, by: f32, bz: f32) -> Crossed
+    ensures { λ r. ⌜ r ≡ crossedOf (vectorOf ax ay az) (vectorOf bx by bz) ⌝ }
 {
     if (ax != ax) | (ay != ay) | (az != az) | (bx != bx) | (by != by) | (bz != bz) {
-        Vector3f {
-            x: minor(ay, bz, az, by),
-            y: minor(az, bx, ax, bz),
-            z: minor(ax, by, ay, bx),
-        }
+        squared(
+            minor(ay, bz, az, by),
+            minor(az, bx, ax, bz),
+            minor(ax, by, ay, bx),
+        )
     } else {
         let x1 = ax as f64;
         let y1 = ay as f64;
@@ -153,11 +178,11 @@ fn cross_parts(ax: f32, ay: f32, az: f32, bx: f32, by: f32, bz: f32) -> Vector3f
         let x2 = bx as f64;
         let y2 = by as f64;
         let z2 = bz as f64;
-        Vector3f {
-            x: float::narrow(y1 * z2 - z1 * y2),
-            y: float::narrow(z1 * x2 - x1 * z2),
-            z: float::narrow(x1 * y2 - y1 * x2),
-        }
+        squared(
+            float::narrow(y1 * z2 - z1 * y2),
+            float::narrow(z1 * x2 - x1 * z2),
+            float::narrow(x1 * y2 - y1 * x2),
+        )
     }
 }
 
@@ -182,7 +207,8 @@ fn axes(v1: Vector3f, v2: Divided) -> CoordinateSystem
 {
     match v2 {
         Divided::Vector(v2) => {
-            let v3 = cross_parts(v1.x, v1.y, v1.z, v2.x, v2.y, v2.z);
+            let crossed = cross_parts(v1.x, v1.y, v1.z, v2.x, v2.y, v2.z);
+            let v3 = crossed.v;
             CoordinateSystem::Axes(v2, v3)
         }
         Divided::ByZero => CoordinateSystem::ZeroLength,

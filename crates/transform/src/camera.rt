@@ -63,11 +63,12 @@ fn camera_to_world(pos: Point3f, right: Vector3f, new_up: Vector3f, dir: Vector3
 fn frame(pos: Point3f, dir: Vector3f, up: Vector3f) -> Transform
     ensures { λ r. ⌜ r ≡ framed pos dir up ⌝ }
 {
-    let across = up.cross(dir);
-    let length = across.length();
+    let crossed = up.cross_squared(dir);
+    let length = float::sqrt(crossed.length_squared);
     if length == 0.0 {
         return Transform::default();
     }
+    let across = crossed.v;
     let right = across.mul(1.0 / length);
     let new_up = dir.cross(right);
     let m_inv = camera_to_world(pos, right, new_up, dir);

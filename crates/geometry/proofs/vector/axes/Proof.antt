@@ -1,7 +1,7 @@
 -- `geometry::vector::axes` meets its contract: each return rewrites by the facts on its way.
 -- Assumes nothing.
 use borrow.Author.Needs.{needs}
-use Rattle.geometry.specs.Vector.{axesOf}
+use Rattle.geometry.specs.Vector.{axesOf, crossedOf}
 use Rattle.geometry.proofs.vector.axes.Statement.{statement}
 use Rattle.geometry.proofs.vector.axes.Tie as tie
 
@@ -12,8 +12,8 @@ enum-told : tie.Need-enum-told
 enum-told c = search needs
 
 returns : tie.Need-returns
-unfolding axesOf
-returns c = rw (c .before .before .v2 .given .1, ← c .cross-parts .ensures)
+unfolding axesOf crossedOf
+returns c = rw (c .before .before .before .v2 .given .1, c .before .cross-parts .ensures)
 
 returns-2 : tie.Need-returns-2
 unfolding axesOf

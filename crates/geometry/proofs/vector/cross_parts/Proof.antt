@@ -6,7 +6,7 @@ use lib.Dec.{T}
 use lib.Ieee.{Float, binary32, binary64, ne, isNan, fits}
 use lib.Ieee.Fits.{and-i, fits-widens}
 use Rattle.float.proofs.Compare.{not-nan}
-use Rattle.geometry.specs.Vector.{minorOf, crossOf}
+use Rattle.geometry.specs.Vector.{minorOf, crossOf, crossedOf}
 use Rattle.geometry.proofs.vector.cross_parts.Statement.{statement}
 use Rattle.geometry.proofs.vector.cross_parts.Tie as tie
 
@@ -59,16 +59,16 @@ module _ (c : tie.Else1) where
   z2 = widens _ (s .good .1 .1 .1 .1 .1 .0 .1) (known .5)
 
 returns : tie.Need-returns
-unfolding crossOf
-returns c = rw (c .minor3 .ensures, c .before .minor2 .ensures, c .before .before .minor .ensures)
+unfolding crossOf crossedOf
+returns c = rw (c .squared .ensures .0, c .squared .ensures .1, c .before .minor3 .ensures, c .before .before .minor2 .ensures, c .before .before .before .minor .ensures)
 
 returns-2 : tie.Need-returns-2
-unfolding crossOf minorOf
-returns-2 c = rw (c .narrow3 .ensures, c .before .narrow2 .ensures, c .before .before .narrow .ensures)
+unfolding crossOf crossedOf minorOf
+returns-2 c = rw (c .squared2 .ensures .0, c .squared2 .ensures .1, c .before .narrow3 .ensures, c .before .before .narrow2 .ensures, c .before .before .before .narrow .ensures)
 
 pub cross-parts-spec : {M : Type 1} → statement M
 cross-parts-spec =
     tie.close
-    (tie.spec (λ c κs. tt) (λ c κs. tt) (λ c κs. tt)
+    (tie.spec (λ c κs. tt) (λ c κs. tt) (λ c κs. tt) (λ c κs. tt)
     (λ c. x1 (c .before)) (λ c. y1 (c .before .before)) (λ c. z1 (c .before .before .before)) (λ c. x2 (c .before .before .before .before)) (λ c. y2 (c .before .before .before .before .before)) (λ c. z2 (c .before .before .before .before .before .before))
-    (λ c κs. tt) (λ c κs. tt) (λ c κs. tt) returns returns-2)
+    (λ c κs. tt) (λ c κs. tt) (λ c κs. tt) (λ c κs. tt) returns returns-2)
