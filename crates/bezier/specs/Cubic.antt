@@ -7,7 +7,6 @@ use Rattle.geometry.specs.declared.vector.Vector3f.{Vector3f}
 use Rattle.geometry.specs.Point.{plus, difference, pointScaled, distanceOf, pointLerp}
 use Rattle.geometry.specs.Vector.{scaled, lengthSquared}
 use Rattle.bezier.specs.declared.cubic.Cubic.{Cubic}
-use Rattle.bezier.specs.declared.cubic.Split.{Split}
 use Rattle.bezier.specs.declared.cubic.Eval.{Eval}
 
 -- blossom_bezier
@@ -36,14 +35,15 @@ averageOf3 a b c = pointScaled (plus (plus a (pointScaled b 2f)) c) (1f ⊘ 4f)
 unfoldable pub averageOf4 : Point3f → Point3f → Point3f → Point3f → Point3f
 averageOf4 a b c d = pointScaled (plus (plus (plus a (pointScaled b 3f)) (pointScaled c 3f)) d) (1f ⊘ 8f)
 
--- subdivide_bezier: cp_split[0..4] and cp_split[3..7]
-unfoldable pub splitOf : Cubic → Split
-splitOf cp =
-    let middle = averageOf4 (cp .p0) (cp .p1) (cp .p2) (cp .p3) in
-    record {
-      low = record { p0 = cp .p0; p1 = averageOf2 (cp .p0) (cp .p1); p2 = averageOf3 (cp .p0) (cp .p1) (cp .p2); p3 = middle };
-      high = record { p0 = middle; p1 = averageOf3 (cp .p1) (cp .p2) (cp .p3); p2 = averageOf2 (cp .p2) (cp .p3); p3 = cp .p3 };
-    }
+-- subdivide_bezier: cp_split[0..4]
+unfoldable pub lowOf : Cubic → Cubic
+lowOf cp =
+    record { p0 = cp .p0; p1 = averageOf2 (cp .p0) (cp .p1); p2 = averageOf3 (cp .p0) (cp .p1) (cp .p2); p3 = averageOf4 (cp .p0) (cp .p1) (cp .p2) (cp .p3) }
+
+-- and cp_split[3..7]
+unfoldable pub highOf : Cubic → Cubic
+highOf cp =
+    record { p0 = averageOf4 (cp .p0) (cp .p1) (cp .p2) (cp .p3); p1 = averageOf3 (cp .p1) (cp .p2) (cp .p3); p2 = averageOf2 (cp .p2) (cp .p3); p3 = cp .p3 }
 
 -- the derivative of eval_bezier, from cp2[0] and cp2[1]
 unfoldable pub derivativeOf : Cubic → Point3f → Point3f → Vector3f

@@ -1,3 +1,4 @@
 pub mod Axis
 pub mod Cubic
+pub mod Points
 pub mod Polygon

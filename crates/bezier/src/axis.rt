@@ -1,7 +1,10 @@
-// One coordinate of a curve's control points. Each goes through the arithmetic on its own and in registers: points that
-// are written to memory and read back whole right after cost more than the arithmetic.
+// One coordinate of a curve's control points. Each goes through the arithmetic on its own: no coordinate asks for another,
+// and four of them side by side (`points`) become one instruction.
 ghost use mathlib.Core.Path.{_≡_};
-ghost use Rattle.bezier.specs.Axis.{blossomAt, between, leastIn, greatestIn};
+ghost use lib.Ieee.{isNan};
+ghost use mathlib.Core.Bool.{false};
+ghost use Rattle.float.specs.Basic.{maxOf, minOf};
+ghost use Rattle.bezier.specs.Axis.{blossomAt, between, averageAt2, averageAt3, averageAt4, lowAt, highAt, evalAt, leastIn, greatestIn};
 use geometry::lerp;
 
 pub struct Axis {
@@ -34,14 +37,103 @@ pub fn part(p: Axis, umin: f32, umax: f32) -> Axis
     }
 }
 
+// The control points of a half are averages of the whole's, weighted 1 1, 1 2 1 and 1 3 3 1.
+fn average2(a: f32, b: f32) -> f32
+    ensures { λ r. ⌜ r ≡ averageAt2 a b ⌝ }
+{
+    (a + b) * (1.0 / 2.0)
+}
+
+fn average3(a: f32, b: f32, c: f32) -> f32
+    ensures { λ r. ⌜ r ≡ averageAt3 a b c ⌝ }
+{
+    (a + b * 2.0 + c) * (1.0 / 4.0)
+}
+
+fn average4(a: f32, b: f32, c: f32, d: f32) -> f32
+    ensures { λ r. ⌜ r ≡ averageAt4 a b c d ⌝ }
+{
+    (a + b * 3.0 + c * 3.0 + d) * (1.0 / 8.0)
+}
+
+// The half at the start, and the half at the end.
+pub fn low(p: Axis) -> Axis
+    ensures { λ r. ⌜ r ≡ lowAt p ⌝ }
+{
+    Axis {
+        p0: p.p0,
+        p1: average2(p.p0, p.p1),
+        p2: average3(p.p0, p.p1, p.p2),
+        p3: average4(p.p0, p.p1, p.p2, p.p3),
+    }
+}
+
+pub fn high(p: Axis) -> Axis
+    ensures { λ r. ⌜ r ≡ highAt p ⌝ }
+{
+    Axis {
+        p0: average4(p.p0, p.p1, p.p2, p.p3),
+        p1: average3(p.p1, p.p2, p.p3),
+        p2: average2(p.p2, p.p3),
+        p3: p.p3,
+    }
+}
+
+// The curve's coordinate at a parameter, the step between the last two points of the construction, and that from the
+// first control point to the last.
+pub struct Step {
+    pub p: f32,
+    pub d: f32,
+    pub chord: f32,
+}
+
+pub fn eval_at(p: Axis, u: f32) -> Step
+    ensures { λ r. ⌜ r ≡ evalAt p u ⌝ }
+{
+    let a0 = lerp(u, p.p0, p.p1);
+    let a1 = lerp(u, p.p1, p.p2);
+    let a2 = lerp(u, p.p2, p.p3);
+    let b0 = lerp(u, a0, a1);
+    let b1 = lerp(u, a1, a2);
+    Step {
+        p: lerp(u, b0, b1),
+        d: b1 - b0,
+        chord: p.p3 - p.p0,
+    }
+}
+
+// `min` and `max` where the first is known to be a number: one comparison.
+fn min_of_number(a: f32, b: f32) -> f32
+    requires { ⌜ isNan a ≡ false ⌝ }
+    ensures { λ r. ⌜ r ≡ minOf a b ⌝ }
+{
+    if b < a { b } else { a }
+}
+
+fn max_of_number(a: f32, b: f32) -> f32
+    requires { ⌜ isNan a ≡ false ⌝ }
+    ensures { λ r. ⌜ r ≡ maxOf a b ⌝ }
+{
+    if a < b { b } else { a }
+}
+
+// Where the first of each pair is a number, so is the pair's result, and no other NaN matters.
 pub fn least(a: Axis) -> f32
     ensures { λ r. ⌜ r ≡ leastIn a ⌝ }
 {
-    float::min(float::min(a.p0, a.p1), float::min(a.p2, a.p3))
+    if (a.p0 != a.p0) | (a.p2 != a.p2) {
+        float::min(float::min(a.p0, a.p1), float::min(a.p2, a.p3))
+    } else {
+        min_of_number(min_of_number(a.p0, a.p1), min_of_number(a.p2, a.p3))
+    }
 }
 
 pub fn greatest(a: Axis) -> f32
     ensures { λ r. ⌜ r ≡ greatestIn a ⌝ }
 {
-    float::max(float::max(a.p0, a.p1), float::max(a.p2, a.p3))
+    if (a.p0 != a.p0) | (a.p2 != a.p2) {
+        float::max(float::max(a.p0, a.p1), float::max(a.p2, a.p3))
+    } else {
+        max_of_number(max_of_number(a.p0, a.p1), max_of_number(a.p2, a.p3))
+    }
 }

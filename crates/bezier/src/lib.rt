@@ -2,6 +2,7 @@
 // names and in their order of operations.
 mod axis;
 mod cubic;
+mod points;
 mod polygon;
 
 pub use axis::Axis;
@@ -10,8 +11,14 @@ pub use axis::least;
 pub use axis::part;
 pub use cubic::Cubic;
 pub use cubic::Eval;
-pub use cubic::Split;
-pub use cubic::eval_bezier;
-pub use cubic::subdivide_bezier;
+pub use points::EVAL;
+pub use points::POINTS;
+pub use points::axis_in;
+pub use points::cubic_in;
+pub use points::eval_bezier;
+pub use points::eval_in;
+pub use points::high_half;
+pub use points::low_half;
+pub use points::points_by;
+pub use points::points_of;
 pub use polygon::chords;
-pub use polygon::cubic_of;

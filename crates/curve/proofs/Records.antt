@@ -1,19 +1,18 @@
 -- What holds of records as lists of floats. Assumes nothing.
-use Prim.Native.Nat.{ℕ, zero, suc, _≤_}
+use Prim.Native.Nat.{_≤_}
 use mathlib.Core.Path.{_≡_, refl, sym, _∙_}
 use mathlib.Core.Bool.{Bool, true, and-eq-true-iff}
 use mathlib.Core.List.{List}
 use native.Mathlib.Nat.{le-of-eq}
-use native.Mathlib.Omega.{arith}
 use borrow.Author.Tests.{eqb-true}
-use lib.ListN.{length, getD}
-use lib.Ieee.{Float, nan}
+use lib.ListN.{length}
+use lib.Ieee.{Float}
 use Rattle.geometry.specs.Point.{pointFrom, pointLerp}
 use Rattle.bezier.specs.Axis.{blossomAt, between}
 use Rattle.bezier.specs.Cubic.{blossomOf}
-use Rattle.bezier.specs.Polygon.{component, axisOf}
-use Rattle.curve.specs.Layout.{floats, uminAt, umaxAt, axisFrom, cubicFrom, curveFrom, curveFloats}
-use Rattle.curve.specs.Curve.{isCurve, inLimits, controlPoints}
+use Rattle.bezier.specs.Polygon.{cubicOf}
+use Rattle.curve.specs.Layout.{floats, axisFrom, cubicFrom, curveFrom, curveFloats}
+use Rattle.curve.specs.Curve.{isCurve, inLimits, controlPoints, coordinateOf}
 use Rattle.curve.specs.declared.curve.Curve.{Curve}
 
 pub length-floats : (c : Curve) → length (curveFloats c) ≡ floats
@@ -35,10 +34,12 @@ pub is-long : (l : List Float) (b : Bool) → b ≡ isCurve l → b ≡ true →
 unfolding isCurve
 is-long l b e t = le-of-eq (sym (eqb-true _ _ (and-eq-true-iff _ _ .0 (sym e ∙ t) .0)))
 
--- a coordinate goes through the blossoms on its own
-pub by-coordinate : (l : List Float) (k : ℕ) → k ≤ 2 → between (axisFrom l k) (getD l uminAt nan) (getD l umaxAt nan) ≡ axisOf (controlPoints (curveFrom l)) k
-unfolding axisOf component controlPoints blossomOf pointLerp between blossomAt axisFrom curveFrom cubicFrom pointFrom
-by-coordinate l zero h = refl
-by-coordinate l (suc zero) h = refl
-by-coordinate l (suc (suc zero)) h = refl
-by-coordinate l (suc (suc (suc k))) h = absurd (omega arith)
+-- the segment's control points, by their coordinates
+pub segment-by-axes : (l : List Float) → cubicOf (axisFrom l 0) (axisFrom l 1) (axisFrom l 2) ≡ cubicFrom l
+unfolding cubicOf axisFrom cubicFrom pointFrom
+segment-by-axes l = refl
+
+-- and the curve's: a coordinate goes through the blossoms on its own
+pub curve-by-axes : (l : List Float) → cubicOf (coordinateOf l 0) (coordinateOf l 1) (coordinateOf l 2) ≡ controlPoints (curveFrom l)
+unfolding cubicOf coordinateOf controlPoints blossomOf pointLerp between blossomAt axisFrom curveFrom cubicFrom pointFrom
+curve-by-axes l = refl

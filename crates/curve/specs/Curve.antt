@@ -1,18 +1,21 @@
 -- A curve's record (01: a piece): its limits, and the part from umin to umax. Definitions only.
 use mathlib.Core.Bool.{Bool, not, _&&_}
 use mathlib.Core.List.{List, [], _∷_}
+use Prim.Native.Nat.{ℕ}
 use lib.Dec.{eqb}
-use lib.ListN.{length}
-use lib.Ieee.{Float, binary32, ofBits, le, lt}
+use lib.ListN.{length, getD}
+use lib.Ieee.{Float, nan, binary32, ofBits, le, lt}
 use Rattle.float.specs.Arith.{0f, 1f}
 use Rattle.geometry.specs.declared.point.Point3f.{Point3f}
 use Rattle.geometry.specs.Pbrt.{lerpOf}
 use Rattle.limits.specs.Refusal.{Table}
 use Rattle.limits.specs.Within.{within, widthWithin}
+use Rattle.bezier.specs.declared.axis.Axis.{Axis}
 use Rattle.bezier.specs.declared.cubic.Cubic.{Cubic}
+use Rattle.bezier.specs.Axis.{between}
 use Rattle.bezier.specs.Cubic.{blossomOf}
 use Rattle.curve.specs.declared.curve.Curve.{Curve}
-use Rattle.curve.specs.Layout.{floats, curveFrom}
+use Rattle.curve.specs.Layout.{floats, uminAt, umaxAt, axisFrom, curveFrom}
 
 -- ---- refusal 9
 
@@ -59,6 +62,10 @@ controlPoints c =
       p2 = blossom (c .umin) (c .umax) (c .umax);
       p3 = blossom (c .umax) (c .umax) (c .umax);
     }
+
+-- a coordinate of them, as `axisFrom` has those of the segment
+unfoldable pub coordinateOf : List Float → ℕ → Axis
+coordinateOf l k = between (axisFrom l k) (getD l uminAt nan) (getD l umaxAt nan)
 
 -- lerp(u, width[0], width[1])
 unfoldable pub widthAt : Curve → Float → Float

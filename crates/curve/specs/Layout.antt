@@ -41,7 +41,7 @@ umaxAt = 15
 
 -- ---- a record out of a list of floats, and into one
 
--- a coordinate of the control points: 0 is x, 1 is y, 2 is z
+-- a coordinate of the control points: 0 is x, 1 is y, 2 is z, and 3 what comes behind each point, for the place that nothing asks for
 unfoldable pub axisFrom : List Float → ℕ → Axis
 axisFrom l k = record { p0 = getD l (p0At + k) nan; p1 = getD l (p1At + k) nan; p2 = getD l (p2At + k) nan; p3 = getD l (p3At + k) nan }
 

@@ -2,9 +2,9 @@
 ghost use mathlib.Core.Path.{_≡_};
 ghost use Prim.Native.Nat.{_≤_};
 ghost use lib.ListN.{length};
-ghost use Rattle.bezier.specs.Polygon.{axisOf};
+ghost use Rattle.bezier.specs.Points.{cubicIn};
 ghost use Rattle.curve.specs.Layout.{floats, curveFrom};
-ghost use Rattle.curve.specs.Curve.{pointWithin, cubicWithin, inLimits, isCurve, controlPoints, widthAt};
+ghost use Rattle.curve.specs.Curve.{pointWithin, cubicWithin, inLimits, isCurve, controlPoints, coordinateOf, widthAt};
 use crate::layout::FLOATS;
 use crate::layout::UMAX;
 use crate::layout::UMIN;
@@ -14,8 +14,9 @@ use crate::layout::axis_from;
 use crate::layout::curve_from;
 use bezier::Axis;
 use bezier::Cubic;
-use bezier::cubic_of;
+use bezier::POINTS;
 use bezier::part;
+use bezier::points_by;
 use geometry::Point3f;
 use geometry::lerp;
 use limits::is_width_within;
@@ -67,21 +68,26 @@ pub fn is_curve(s: &[f32]) -> bool
     }
 }
 
-// A coordinate of the control points of the part from umin to umax: 0 is x, 1 is y, 2 is z. From here on a slice is one
+// A coordinate of the control points of the part from umin to umax, as axis_from has them. From here on a slice is one
 // that passed refusal 9, and is asked to be as long as a record.
-pub fn coordinate(s: &[f32], k: usize) -> Axis
-    requires { ⌜ (floats ≤ length (now s)) × (k ≤ 2) ⌝ }
-    ensures { λ r. ⌜ r ≡ axisOf (controlPoints (curveFrom (now (s .entry)))) k ⌝ }
+fn coordinate(s: &[f32], k: usize) -> Axis
+    requires { ⌜ (floats ≤ length (now s)) × (k ≤ 3) ⌝ }
+    ensures { λ r. ⌜ r ≡ coordinateOf (now (s .entry)) k ⌝ }
 {
     part(axis_from(s, k), s[UMIN], s[UMAX])
 }
 
-// All of them, by points: the Rust's cpobj.
-pub fn control_points(s: &[f32]) -> Cubic
+// All of them, as floats that are lent: the Rust's cpobj.
+pub fn control_points(s: &[f32]) -> [f32; POINTS]
     requires { ⌜ floats ≤ length (now s) ⌝ }
-    ensures { λ r. ⌜ r ≡ controlPoints (curveFrom (now (s .entry))) ⌝ }
+    ensures { λ r. ⌜ cubicIn r ≡ controlPoints (curveFrom (now (s .entry))) ⌝ }
 {
-    cubic_of(coordinate(s, 0), coordinate(s, 1), coordinate(s, 2))
+    points_by(
+        coordinate(s, 0),
+        coordinate(s, 1),
+        coordinate(s, 2),
+        coordinate(s, 3),
+    )
 }
 
 pub fn width_at(s: &[f32], u: f32) -> f32

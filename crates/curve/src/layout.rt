@@ -3,10 +3,13 @@
 ghost use mathlib.Core.Path.{_≡_};
 ghost use Prim.Native.Nat.{_≤_};
 ghost use lib.ListN.{length};
+ghost use Rattle.bezier.specs.Points.{cubicIn};
 ghost use Rattle.curve.specs.Layout.{floats, axisFrom, cubicFrom, curveFrom, curveFloats};
 use crate::curve::Curve;
 use bezier::Axis;
 use bezier::Cubic;
+use bezier::POINTS;
+use bezier::points_by;
 use geometry::point_from;
 
 pub const FLOATS: usize = 16;
@@ -31,9 +34,9 @@ pub const UMIN: usize = 14;
 pub const UMAX: usize = 15;
 
 // The readers ask that a record is there: they are for slices whose length was tested. This one reads a coordinate of
-// the control points: 0 is x, 1 is y, 2 is z.
+// the control points: 0 is x, 1 is y, 2 is z, and 3 is what comes behind each point, for the place that nothing asks for.
 pub fn axis_from(s: &[f32], k: usize) -> Axis
-    requires { ⌜ (floats ≤ length (now s)) × (k ≤ 2) ⌝ }
+    requires { ⌜ (floats ≤ length (now s)) × (k ≤ 3) ⌝ }
     ensures { λ r. ⌜ r ≡ axisFrom (now (s .entry)) k ⌝ }
 {
     Axis {
@@ -44,7 +47,7 @@ pub fn axis_from(s: &[f32], k: usize) -> Axis
     }
 }
 
-pub fn cubic_from(s: &[f32]) -> Cubic
+fn cubic_from(s: &[f32]) -> Cubic
     requires { ⌜ floats ≤ length (now s) ⌝ }
     ensures { λ r. ⌜ r ≡ cubicFrom (now (s .entry)) ⌝ }
 {
@@ -54,6 +57,19 @@ pub fn cubic_from(s: &[f32]) -> Cubic
         p2: point_from(s, P2),
         p3: point_from(s, P3),
     }
+}
+
+// The segment's control points, as floats that are lent.
+pub fn points_from(s: &[f32]) -> [f32; POINTS]
+    requires { ⌜ floats ≤ length (now s) ⌝ }
+    ensures { λ r. ⌜ cubicIn r ≡ cubicFrom (now (s .entry)) ⌝ }
+{
+    points_by(
+        axis_from(s, 0),
+        axis_from(s, 1),
+        axis_from(s, 2),
+        axis_from(s, 3),
+    )
 }
 
 pub fn curve_from(s: &[f32]) -> Curve

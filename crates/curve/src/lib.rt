@@ -5,7 +5,6 @@ mod layout;
 
 pub use curve::Curve;
 pub use curve::control_points;
-pub use curve::coordinate;
 pub use curve::is_curve;
 pub use curve::width_at;
 pub use layout::FLOATS;
@@ -13,5 +12,5 @@ pub use layout::UMAX;
 pub use layout::UMIN;
 pub use layout::WIDTH0;
 pub use layout::WIDTH1;
-pub use layout::cubic_from;
 pub use layout::curve_floats;
+pub use layout::points_from;

@@ -5,6 +5,7 @@ ghost use lib.ListN.{length};
 ghost use Rattle.curve.specs.Layout.{floats, curveFrom};
 ghost use Rattle.frame.specs.Frame.{upVector, rayFrame, pairOf, joinedPairs, projectedCubic, viewOf, inRayFrame, aimedAt, framedCurve};
 use bezier::Cubic;
+use bezier::cubic_in;
 use curve::control_points;
 use geometry::CoordinateSystem;
 use geometry::Divided;
@@ -148,7 +149,7 @@ pub fn frame_curve(curve: &[f32], world_to_object: Matrix4x4, r: Ray) -> Framed
     ensures { λ f. ⌜ f ≡ framedCurve (curveFrom (now (curve .entry))) «world_to_object» r ⌝ }
 {
     match transform_ray_error(world_to_object, r) {
-        TransformedRay::Ray(transformed) => aim(control_points(curve), transformed.ray),
+        TransformedRay::Ray(transformed) => aim(cubic_in(&control_points(curve)), transformed.ray),
         TransformedRay::ZeroWeight => Framed::ZeroWeight,
     }
 }

@@ -10,6 +10,7 @@ use lib.Ieee.{Float}
 use lib.Pow.{pow-mono}
 use Rattle.geometry.specs.declared.ray.Ray.{Ray}
 use Rattle.bezier.specs.declared.cubic.Cubic.{Cubic}
+use Rattle.bezier.specs.Points.{cubicIn}
 use Rattle.bisection.specs.Below.{orElse, atOr}
 use Rattle.bisection.specs.Nodes.{node, firstOpen, bestOpen, openUpTo}
 use Rattle.bisection.proofs.Nodes.{before-upTo, before-shut, first-shut, last-shut}
@@ -21,9 +22,10 @@ use Rattle.frame.specs.Fixed.{viewFrom, viewFloats}
 use Rattle.frame.proofs.ViewBack.{view-back}
 use Rattle.overlap.specs.declared.subcurve.Subcurve.{Subcurve}
 use Rattle.overlap.specs.Depth.{depthOf}
-use Rattle.overlap.specs.Subcurve.{lowHalf, highHalf}
+use Rattle.overlap.specs.Subcurve.{lowHalf, highHalf, subcurveIn}
 use Rattle.overlap.specs.Thrown.{halfWidth, isThrown, isWholeThrownBy, isWholeThrown}
 use Rattle.overlap.proofs.DepthMost.{depth-most}
+use Rattle.overlap.proofs.Lent.{subcurve-back}
 use Rattle.leaf.specs.declared.leaf.Leaf.{Leaf}
 use Rattle.leaf.specs.declared.leaf.Leaf.the-variants.{Passes, Fails, NoFrame}
 use Rattle.leaf.specs.Leaf.{leafOf}
@@ -122,8 +124,8 @@ whole-room c cp n e =
     let small : suc n ≤ 11 = omega (arith, depth-most c cp) in
     omega (arith, pow-mono small)
 
-module _ (c : Curve) (ray : Ray) (flip : Bool) (v : View) (s : Subcurve) (w : Float) (b : Bool)
-    (wide : w ≡ halfWidth c (s .u0) (s .u1)) (tested : b ≡ isWholeThrownBy w (v .zmax) s) where
+module _ (c : Curve) (ray : Ray) (flip : Bool) (v : View) (s : Subcurve) (p : List Float) (w : Float) (b : Bool)
+    (wide : w ≡ halfWidth c (s .u0) (s .u1)) (lent : cubicIn p ≡ s .cp) (tested : b ≡ isWholeThrownBy w (v .zmax) (cubicIn p)) where
   is-tested : isWholeThrown c (v .zmax) s ≡ b
   unfolding isWholeThrown
   is-tested = cc
@@ -133,8 +135,8 @@ module _ (c : Curve) (ray : Ray) (flip : Bool) (v : View) (s : Subcurve) (w : Fl
   whole-shut t = shut c v ray flip s _ (is-tested ∙ t)
 
   pub whole-walked : (n m : ℕ) (l x y : List Float) (q : Walked) (r : Intersection) → b ≡ false
-      → n ≡ depthOf c (s .cp) → l ≡ viewFloats v → reached q x m ≡ walkIn c (viewFrom l) n s (reached Miss y 0) → r ≡ finished c ray flip (reached q x m) → r ≡ intersectWhole c ray flip v s
+      → n ≡ depthOf c (s .cp) → l ≡ viewFloats v → reached q x m ≡ walkIn c (viewFrom l) n (subcurveIn p (s .u0) (s .u1)) (reached Miss y 0) → r ≡ finished c ray flip (reached q x m) → r ≡ intersectWhole c ray flip v s
   unfolding intersectWhole
   whole-walked n m l x y q r t i k g f =
       let start : reached Miss y 0 ≡ reachedBy 0 Fails = unfold reached in refl in
-      rw (f, g, start, i, k, view-back) (walked c v ray flip s (depthOf c (s .cp)) (is-tested ∙ t))
+      rw (f, g, subcurve-back s p lent, start, i, k, view-back) (walked c v ray flip s (depthOf c (s .cp)) (is-tested ∙ t))

@@ -10,11 +10,13 @@ use lib.Pow.{pow-pos}
 use Rattle.bisection.specs.Walk.{onward, walkOf}
 use Rattle.bisection.proofs.Nodes.{pow-two}
 use Rattle.bisection.proofs.Walked.{half-size}
+use Rattle.bezier.specs.Cubic.{lowOf, highOf}
+use Rattle.bezier.specs.Points.{cubicIn}
 use Rattle.curve.specs.declared.curve.Curve.{Curve}
 use Rattle.frame.specs.declared.frame.View.{View}
 use Rattle.overlap.specs.declared.subcurve.Subcurve.{Subcurve}
-use Rattle.overlap.specs.declared.subcurve.Halves.{Halves}
-use Rattle.overlap.specs.Subcurve.{lowHalf, highHalf, halvesOf}
+use Rattle.overlap.specs.Subcurve.{middleOf, lowHalf, highHalf, subcurveIn}
+use Rattle.overlap.proofs.Lent.{low-lent, high-lent}
 use Rattle.overlap.specs.Thrown.{halfWidth, isThrownBy, isThrown}
 use Rattle.leaf.specs.declared.leaf.Crossing.{Crossing}
 use Rattle.leaf.specs.declared.leaf.Frame.{Frame}
@@ -62,17 +64,17 @@ room-high c v p d n e m l x r q f h le g =
 
 -- ---- the returns
 
-module _ (c : Curve) (v : View) (s : Subcurve) (d : ℕ) (w z : Float) (b : Bool)
-    (wide : w ≡ halfWidth c (s .u0) (s .u1)) (limit : z ≡ v .zmax) (tested : b ≡ isThrownBy w z s) where
-  is-tested : isThrown c (v .zmax) s ≡ b
-  unfolding isThrown
+module _ (c : Curve) (v : View) (l : List Float) (u0 u1 : Float) (d : ℕ) (w z : Float) (b : Bool)
+    (wide : w ≡ halfWidth c u0 u1) (limit : z ≡ v .zmax) (tested : b ≡ isThrownBy w z (cubicIn l)) where
+  is-tested : isThrown c (v .zmax) (subcurveIn l u0 u1) ≡ b
+  unfolding isThrown subcurveIn
   is-tested = cc
 
-  pub half-out : b ≡ true → (r : Reached) → r ≡ halfIn c v d s r
+  pub half-out : b ≡ true → (r : Reached) → r ≡ halfIn c v d (subcurveIn l u0 u1) r
   unfolding halfIn
   half-out t r = rw (is-tested, t)
 
-  pub half-in : b ≡ false → (q r : Reached) → q ≡ walkIn c v d s r → q ≡ halfIn c v d s r
+  pub half-in : b ≡ false → (q r : Reached) → q ≡ walkIn c v d (subcurveIn l u0 u1) r → q ≡ halfIn c v d (subcurveIn l u0 u1) r
   unfolding halfIn walkIn
   half-in t q r e = rw (is-tested, t) e
 
@@ -107,21 +109,19 @@ unfolding walkIn halfIn walkOf
 walk-cuts c v s zero r f = absurd (f refl)
 walk-cuts c v s (suc d) r f = let e : suc d - 1 ≡ d = omega arith in rw e
 
-module _ (c : Curve) (v : View) (s : Subcurve) (h : Halves) (d : ℕ) (r e q : Reached) (b : Bool)
-    (cut : d ≡ 0 → ⊥) (counted : e ≡ entered r) (halved : h ≡ halvesOf s) (first : q ≡ halfIn c v (d - 1) (h .low) e) (over : b ≡ isOver q) where
+module _ (c : Curve) (v : View) (l : List Float) (u0 u u1 : Float) (low high : List Float) (d : ℕ) (r e q : Reached) (b : Bool)
+    (cut : d ≡ 0 → ⊥) (counted : e ≡ entered r) (middle : u ≡ middleOf u0 u1) (is-low : cubicIn low ≡ lowOf (cubicIn l)) (is-high : cubicIn high ≡ highOf (cubicIn l))
+    (first : q ≡ halfIn c v (d - 1) (subcurveIn low u0 u) e) (over : b ≡ isOver q) where
   -- the walk of the low half
-  low-walked : halfIn c v (d - 1) (lowHalf s) (entered r) ≡ q
-  unfolding halvesOf
-  low-walked = let low : h .low ≡ lowHalf s = ap (λ (x : Halves). x .low) halved in cc
+  low-walked : halfIn c v (d - 1) (lowHalf (subcurveIn l u0 u1)) (entered r) ≡ q
+  low-walked = rw (← low-lent l low u0 u u1 middle is-low, ← counted) (sym first)
 
-  pub walk-stops : b ≡ true → q ≡ walkIn c v d s r
+  pub walk-stops : b ≡ true → q ≡ walkIn c v d (subcurveIn l u0 u1) r
   walk-stops t =
       let o : isOver q ≡ true = cc in
-      rw (walk-cuts c v s d r cut, low-walked, o)
+      rw (walk-cuts c v (subcurveIn l u0 u1) d r cut, low-walked, o)
 
-  pub walk-goes : b ≡ false → (q′ : Reached) → q′ ≡ halfIn c v (d - 1) (h .high) q → q′ ≡ walkIn c v d s r
-  unfolding halvesOf
+  pub walk-goes : b ≡ false → (q′ : Reached) → q′ ≡ halfIn c v (d - 1) (subcurveIn high u u1) q → q′ ≡ walkIn c v d (subcurveIn l u0 u1) r
   walk-goes t q′ w =
-      let high : h .high ≡ highHalf s = ap (λ (x : Halves). x .high) halved in
       let o : isOver q ≡ false = cc in
-      rw (walk-cuts c v s d r cut, low-walked, o) (cc)
+      rw (walk-cuts c v (subcurveIn l u0 u1) d r cut, low-walked, o, ← high-lent l high u0 u u1 middle is-high) w

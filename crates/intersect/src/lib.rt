@@ -9,6 +9,7 @@ ghost use Rattle.intersect.specs.Intersect.{intersectWhole, intersectFra
 
 mod walk;
 
+use bezier::points_of;
 use curve::is_curve;
 use frame::Framed;
 use frame::View;
@@ -67,7 +68,8 @@ fn intersect_whole(curve: &[f32], ray: Ray, flip: bool, v: View, s: Subcurve) ->
     ensures { λ r. ⌜ r ≡ intersectWhole (curveFrom (now (curve .entry))) ray flip v s ⌝ }
 {
     let w = half_width(curve, s.u0, s.u1);
-    if is_whole_thrown(w, v.zmax, s) {
+    let points = points_of(s.cp);
+    if is_whole_thrown(w, v.zmax, &points) {
         Intersection::Miss(0)
     } else {
         let cuts = max_depth(curve, s.cp);
@@ -77,7 +79,9 @@ fn intersect_whole(curve: &[f32], ray: Ray, flip: bool, v: View, s: Subcurve) ->
         let walked = recursive_intersect(
             curve,
             &fixed,
-            s,
+            &points,
+            s.u0,
+            s.u1,
             cuts,
             &mut found,
             &mut looked,

@@ -4,8 +4,12 @@ ghost use Prim.Native.Nat.{suc, _+_, _≤_, _^_};
 ghost use lib.ListN.{length};
 ghost use Rattle.curve.specs.Layout.{floats, curveFrom};
 ghost use Rattle.frame.specs.Fixed.{viewFrom};
+ghost use Rattle.overlap.specs.Subcurve.{subcurveIn};
 ghost use Rattle.intersect.specs.Intersect.{stops};
 ghost use Rattle.intersect.specs.Walk.{later, lastIn, reached, walkIn, halfIn};
+use bezier::POINTS;
+use bezier::high_half;
+use bezier::low_half;
 use frame::FIXED;
 use frame::zmax_in;
 use leaf::FOUND;
@@ -14,10 +18,9 @@ use leaf::distance_in;
 use leaf::found_floats;
 use leaf::put_distance;
 use leaf::run_leaf;
-use overlap::Subcurve;
 use overlap::half_width;
-use overlap::halve;
 use overlap::is_thrown;
+use overlap::middle;
 
 // What a walk has come to. The crossing of a hit with its frame, or the distance where there is none, is among the
 // floats that it fills, so that what every step hands on is small.
@@ -56,29 +59,34 @@ fn is_over(w: Walked, found: &[f32; FOUND]) -> bool
 }
 
 // The walk calls the half step, which calls the walk; depth falls. The curve is the caller's slice, which passed refusal 9,
-// `fixed` is what else the walk holds fixed, and `looked` counts the subcurves that are entered.
+// `fixed` is what else the walk holds fixed, the points p are those of a subcurve from u0 to u1, and `looked` counts the
+// subcurves that are entered.
 pub fn recursive_intersect(
     curve: &[f32],
     fixed: &[f32; FIXED],
-    s: Subcurve,
+    p: &[f32; POINTS],
+    u0: f32,
+    u1: f32,
     depth: u32,
     found: &mut [f32; FOUND],
     looked: &mut u32,
     so_far: Walked,
 ) -> Walked
     requires { ⌜ (floats ≤ length (now curve)) × (now looked + 2 ^ suc depth ≤ 2 ^ 32) ⌝ }
-    ensures { λ r. ⌜ reached r (now (found .exit)) (now (looked .exit)) ≡ walkIn (curveFrom (now (curve .entry))) (viewFrom (now (fixed .entry))) depth s (reached «so_far» (now (found .entry)) (now (looked .entry))) ⌝ }
+    ensures { λ r. ⌜ reached r (now (found .exit)) (now (looked .exit)) ≡ walkIn (curveFrom (now (curve .entry))) (viewFrom (now (fixed .entry))) depth (subcurveIn (now (p .entry)) u0 u1) (reached «so_far» (now (found .entry)) (now (looked .entry))) ⌝ }
 {
     *looked = *looked + 1;
     if depth == 0 {
-        settle(run_leaf(curve, fixed, s), found, so_far)
+        settle(run_leaf(curve, fixed, p, u0, u1), found, so_far)
     } else {
-        let halves = halve(s);
-        let first = half_step(curve, fixed, halves.low, depth - 1, found, looked, so_far);
+        let u = middle(u0, u1);
+        let low = low_half(p);
+        let high = high_half(p);
+        let first = half_step(curve, fixed, &low, u0, u, depth - 1, found, looked, so_far);
         if is_over(first, found) {
             first
         } else {
-            half_step(curve, fixed, halves.high, depth - 1, found, looked, first)
+            half_step(curve, fixed, &high, u, u1, depth - 1, found, looked, first)
         }
     }
 }
@@ -86,19 +94,21 @@ pub fn recursive_intersect(
 fn half_step(
     curve: &[f32],
     fixed: &[f32; FIXED],
-    s: Subcurve,
+    p: &[f32; POINTS],
+    u0: f32,
+    u1: f32,
     depth: u32,
     found: &mut [f32; FOUND],
     looked: &mut u32,
     so_far: Walked,
 ) -> Walked
     requires { ⌜ (floats ≤ length (now curve)) × (now looked + 2 ^ suc depth ≤ 2 ^ 32) ⌝ }
-    ensures { λ r. ⌜ reached r (now (found .exit)) (now (looked .exit)) ≡ halfIn (curveFrom (now (curve .entry))) (viewFrom (now (fixed .entry))) depth s (reached «so_far» (now (found .entry)) (now (looked .entry))) ⌝ }
+    ensures { λ r. ⌜ reached r (now (found .exit)) (now (looked .exit)) ≡ halfIn (curveFrom (now (curve .entry))) (viewFrom (now (fixed .entry))) depth (subcurveIn (now (p .entry)) u0 u1) (reached «so_far» (now (found .entry)) (now (looked .entry))) ⌝ }
 {
-    let w = half_width(curve, s.u0, s.u1);
-    if is_thrown(w, zmax_in(fixed), s) {
+    let w = half_width(curve, u0, u1);
+    if is_thrown(w, zmax_in(fixed), p) {
         so_far
     } else {
-        recursive_intersect(curve, fixed, s, depth, found, looked, so_far)
+        recursive_intersect(curve, fixed, p, u0, u1, depth, found, looked, so_far)
     }
 }

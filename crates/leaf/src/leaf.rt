@@ -4,11 +4,15 @@ ghost use Prim.Native.Nat.{_≤_};
 ghost use lib.ListN.{length};
 ghost use Rattle.curve.specs.Layout.{floats, curveFrom};
 ghost use Rattle.frame.specs.Fixed.{viewFrom};
+ghost use Rattle.overlap.specs.Subcurve.{subcurveIn};
 ghost use Rattle.leaf.specs.Leaf.{segmentDir, edgeStart, edgeEnd, lineAt, vOf, crossingAt, crossingOf, isZero, crosswiseOf, outwardOf, alongOf, frameOf, leafFrom, leafOf};
 use bezier::Cubic;
 use bezier::Eval;
+use bezier::POINTS;
+use bezier::cubic_in;
 use bezier::eval_bezier;
-use curve::cubic_from;
+use bezier::eval_in;
+use curve::points_from;
 use curve::width_at;
 use frame::FIXED;
 use frame::direction_in;
@@ -22,7 +26,6 @@ use geometry::Vector2f;
 use geometry::Vector3f;
 use geometry::clamp;
 use geometry::lerp;
-use overlap::Subcurve;
 use transform::transform_vector;
 
 // The distance along the ray, and the parameters along and across the curve.
@@ -89,13 +92,20 @@ fn v_of(pc: Eval, dist2: f32, hit_width: f32) -> f32
 
 // The tests of the curve's point nearest the ray. Here and below the curve is one that passed refusal 9, and `fixed` is
 // what the walk holds fixed.
-fn cross_at(curve: &[f32], fixed: &[f32; FIXED], s: Subcurve, w: f32) -> Crossed
+fn cross_at(
+    curve: &[f32],
+    fixed: &[f32; FIXED],
+    p: &[f32; POINTS],
+    u0: f32,
+    u1: f32,
+    w: f32,
+) -> Crossed
     requires { ⌜ floats ≤ length (now curve) ⌝ }
-    ensures { λ r. ⌜ r ≡ crossingAt (curveFrom (now (curve .entry))) (viewFrom (now (fixed .entry))) s w ⌝ }
+    ensures { λ r. ⌜ r ≡ crossingAt (curveFrom (now (curve .entry))) (viewFrom (now (fixed .entry))) (subcurveIn (now (p .entry)) u0 u1) w ⌝ }
 {
-    let u = clamp(lerp(w, s.u0, s.u1), s.u0, s.u1);
+    let u = clamp(lerp(w, u0, u1), u0, u1);
     let hit_width = width_at(curve, u);
-    let pc = eval_bezier(s.cp, clamp(w, 0.0, 1.0));
+    let pc = eval_in(&eval_bezier(p, clamp(w, 0.0, 1.0)));
     let dist2 = pc.p.x * pc.p.x + pc.p.y * pc.p.y;
     let zmax = zmax_in(fixed);
     if (dist2 > hit_width * hit_width * 0.25) | (pc.p.z < 0.0) | (pc.p.z > zmax) {
@@ -109,16 +119,18 @@ fn cross_at(curve: &[f32], fixed: &[f32; FIXED], s: Subcurve, w: f32) -> Crossed
     }
 }
 
-fn cross_leaf(curve: &[f32], fixed: &[f32; FIXED], s: Subcurve) -> Crossed
+// The points p are the subcurve's, from u0 to u1.
+fn cross_leaf(curve: &[f32], fixed: &[f32; FIXED], p: &[f32; POINTS], u0: f32, u1: f32) -> Crossed
     requires { ⌜ floats ≤ length (now curve) ⌝ }
-    ensures { λ r. ⌜ r ≡ crossingOf (curveFrom (now (curve .entry))) (viewFrom (now (fixed .entry))) s ⌝ }
+    ensures { λ r. ⌜ r ≡ crossingOf (curveFrom (now (curve .entry))) (viewFrom (now (fixed .entry))) (subcurveIn (now (p .entry)) u0 u1) ⌝ }
 {
-    let dir = segment_dir(s.cp);
+    let cp = cubic_in(p);
+    let dir = segment_dir(cp);
     let denom = dir.length_squared();
-    if (edge_start(s.cp) < 0.0) | (edge_end(s.cp) < 0.0) | (denom == 0.0) {
+    if (edge_start(cp) < 0.0) | (edge_end(cp) < 0.0) | (denom == 0.0) {
         Crossed::Nowhere
     } else {
-        cross_at(curve, fixed, s, line_at(s.cp, dir, denom))
+        cross_at(curve, fixed, p, u0, u1, line_at(cp, dir, denom))
     }
 }
 
@@ -172,7 +184,8 @@ fn outward(d: Vector3f, dpdu: Vector3f, dpdv: Vector3f, n: Vector3f) -> Framing
 fn along(d: Vector3f, dpdu: Vector3f, dpdv: Vector3f) -> Framing
     ensures { λ r. ⌜ r ≡ alongOf d dpdu dpdv ⌝ }
 {
-    match dpdu.cross(dpdv).normalize() {
+    let crossed = dpdu.cross_squared(dpdv);
+    match crossed.v.div(float::sqrt(crossed.length_squared)) {
         Divided::Vector(n) => outward(d, dpdu, dpdv, n),
         Divided::ByZero => Framing::NoFrame(16),
     }
@@ -183,7 +196,7 @@ fn frame_at(curve: &[f32], fixed: &[f32; FIXED], u: f32) -> Framing
     requires { ⌜ floats ≤ length (now curve) ⌝ }
     ensures { λ r. ⌜ r ≡ frameOf (curveFrom (now (curve .entry))) (viewFrom (now (fixed .entry))) u ⌝ }
 {
-    let at = eval_bezier(cubic_from(curve), u);
+    let at = eval_in(&eval_bezier(&points_from(curve), u));
     if is_zero(at.d) {
         Framing::NoFrame(14)
     } else {
@@ -211,11 +224,11 @@ fn leaf_from(curve: &[f32], fixed: &[f32; FIXED], at: Crossing) -> Leaf
     }
 }
 
-pub fn run_leaf(curve: &[f32], fixed: &[f32; FIXED], s: Subcurve) -> Leaf
+pub fn run_leaf(curve: &[f32], fixed: &[f32; FIXED], p: &[f32; POINTS], u0: f32, u1: f32) -> Leaf
     requires { ⌜ floats ≤ length (now curve) ⌝ }
-    ensures { λ r. ⌜ r ≡ leafOf (curveFrom (now (curve .entry))) (viewFrom (now (fixed .entry))) s ⌝ }
+    ensures { λ r. ⌜ r ≡ leafOf (curveFrom (now (curve .entry))) (viewFrom (now (fixed .entry))) (subcurveIn (now (p .entry)) u0 u1) ⌝ }
 {
-    match cross_leaf(curve, fixed, s) {
+    match cross_leaf(curve, fixed, p, u0, u1) {
         Crossed::At(at) => leaf_from(curve, fixed, at),
         Crossed::Nowhere => Leaf::Fails,
     }

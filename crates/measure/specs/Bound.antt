@@ -25,9 +25,16 @@ use Rattle.measure.specs.declared.bound.Bound.the-variants.{Bounds, Refu
 unfoldable pub boxOf : Cubic → Bounds3f
 boxOf p = union (boundsOf (p .p0) (p .p1)) (boundsOf (p .p2) (p .p3))
 
--- object_bound of a curve within the limits: that of its control points, widened by half the larger end width
+-- that, widened by half a width
+unfoldable pub widened : Cubic → Float → Bounds3f
+widened p width = expanded (boxOf p) (width ⊗ half)
+
+unfoldable pub largerWidth : Curve → Float
+largerWidth c = maxOf (widthAt c (c .umin)) (widthAt c (c .umax))
+
+-- object_bound of a curve within the limits: the box of its control points, widened by half the larger end width
 unfoldable pub boundOf : Curve → Bounds3f
-boundOf c = expanded (boxOf (controlPoints c)) (maxOf (widthAt c (c .umin)) (widthAt c (c .umax)) ⊗ half)
+boundOf c = widened (controlPoints c) (largerWidth c)
 
 unfoldable pub objectBound : List Float → Bound
 objectBound l = told Refused (firstOf (curveRefusals l)) (Bounds (boundOf (curveFrom l)))

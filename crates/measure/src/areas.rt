@@ -7,7 +7,7 @@ ghost use Rattle.measure.specs.Area.{areaOf, areaIn};
 use bezier::chords;
 use curve::UMAX;
 use curve::UMIN;
-use curve::coordinate;
+use curve::control_points;
 use curve::is_curve;
 use curve::width_at;
 
@@ -22,8 +22,7 @@ fn curve_area(s: &[f32]) -> f32
     ensures { λ r. ⌜ r ≡ areaOf (curveFrom (now (s .entry))) ⌝ }
 {
     let avg_width = (width_at(s, s[UMIN]) + width_at(s, s[UMAX])) * 0.5;
-    let approx_length = chords(coordinate(s, 0), coordinate(s, 1), coordinate(s, 2));
-    approx_length * avg_width
+    chords(&control_points(s)) * avg_width
 }
 
 pub fn area(curve: &[f32]) -> Measured

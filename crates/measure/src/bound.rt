@@ -2,15 +2,16 @@
 ghost use mathlib.Core.Path.{_≡_};
 ghost use Prim.Native.Nat.{_≤_};
 ghost use lib.ListN.{length};
-ghost use Rattle.bezier.specs.Polygon.{cubicOf};
+ghost use Rattle.bezier.specs.Points.{cubicIn};
 ghost use Rattle.curve.specs.Layout.{floats, curveFrom};
-ghost use Rattle.measure.specs.Bound.{boxOf, boundOf, objectBound, worldBoundOf, worldBound};
-use bezier::Axis;
+ghost use Rattle.measure.specs.Bound.{widened, largerWidth, objectBound, worldBoundOf, worldBound};
+use bezier::POINTS;
+use bezier::axis_in;
 use bezier::greatest;
 use bezier::least;
 use curve::UMAX;
 use curve::UMIN;
-use curve::coordinate;
+use curve::control_points;
 use curve::is_curve;
 use curve::width_at;
 use geometry::Bounds3f;
@@ -25,10 +26,22 @@ pub enum Bound {
     Refused(u8),
 }
 
-// The box of the control points.
-fn box_of(x: Axis, y: Axis, z: Axis) -> Bounds3f
-    ensures { λ r. ⌜ r ≡ boxOf (cubicOf x y z) ⌝ }
+// The larger end width. The slice is one that passed refusal 9.
+fn larger_width(s: &[f32]) -> f32
+    requires { ⌜ floats ≤ length (now s) ⌝ }
+    ensures { λ r. ⌜ r ≡ largerWidth (curveFrom (now (s .entry))) ⌝ }
 {
+    float::max(width_at(s, s[UMIN]), width_at(s, s[UMAX]))
+}
+
+// The box of control points, widened by half a width. It is given these and not the slice, which would be copied for the
+// next call and waited for.
+fn widened_box(p: &[f32; POINTS], width: f32) -> Bounds3f
+    ensures { λ r. ⌜ r ≡ widened (cubicIn (now (p .entry))) width ⌝ }
+{
+    let x = axis_in(p, 0);
+    let y = axis_in(p, 1);
+    let z = axis_in(p, 2);
     let p_min = Point3f {
         x: least(x),
         y: least(y),
@@ -39,16 +52,7 @@ fn box_of(x: Axis, y: Axis, z: Axis) -> Bounds3f
         y: greatest(y),
         z: greatest(z),
     };
-    Bounds3f { p_min, p_max }
-}
-
-// That box, widened by half the larger end width.
-fn curve_bound(s: &[f32]) -> Bounds3f
-    requires { ⌜ floats ≤ length (now s) ⌝ }
-    ensures { λ r. ⌜ r ≡ boundOf (curveFrom (now (s .entry))) ⌝ }
-{
-    let width = float::max(width_at(s, s[UMIN]), width_at(s, s[UMAX]));
-    let points = box_of(coordinate(s, 0), coordinate(s, 1), coordinate(s, 2));
+    let points = Bounds3f { p_min, p_max };
     points.expand(width * 0.5)
 }
 
@@ -56,7 +60,7 @@ pub fn object_bound(curve: &[f32]) -> Bound
     ensures { λ r. ⌜ r ≡ objectBound (now (curve .entry)) ⌝ }
 {
     if is_curve(curve) {
-        Bound::Bounds(curve_bound(curve))
+        Bound::Bounds(widened_box(&control_points(curve), larger_width(curve)))
     } else {
         Bound::Refused(9)
     }
@@ -67,7 +71,7 @@ fn curve_world_bound(s: &[f32], m: Matrix4x4) -> Bound
     requires { ⌜ floats ≤ length (now s) ⌝ }
     ensures { λ r. ⌜ r ≡ worldBoundOf (curveFrom (now (s .entry))) m ⌝ }
 {
-    match transform_bounds(m, curve_bound(s)) {
+    match transform_bounds(m, widened_box(&control_points(s), larger_width(s))) {
         TransformedBounds::Bounds(b) => Bound::Bounds(b),
         TransformedBounds::ZeroWeight => Bound::Refused(12),
     }

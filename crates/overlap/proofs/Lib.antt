@@ -1,1 +1,2 @@
 pub mod DepthMost
+pub mod Lent

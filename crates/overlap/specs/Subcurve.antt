@@ -1,11 +1,12 @@
 -- Parts of a curve in the ray's frame (01: the pieces of the walk), and their halves. Definitions only.
+use mathlib.Core.List.{List}
 use lib.Ieee.{Float}
 use Rattle.float.specs.Arith.{_⊕_, _⊘_, 2f}
 use Rattle.bezier.specs.declared.cubic.Cubic.{Cubic}
-use Rattle.bezier.specs.Cubic.{splitOf}
+use Rattle.bezier.specs.Cubic.{lowOf, highOf}
+use Rattle.bezier.specs.Points.{cubicIn}
 use Rattle.curve.specs.declared.curve.Curve.{Curve}
 use Rattle.overlap.specs.declared.subcurve.Subcurve.{Subcurve}
-use Rattle.overlap.specs.declared.subcurve.Halves.{Halves}
 
 -- all of it, from umin to umax, with its control points in the ray's frame
 unfoldable pub wholeOf : Curve → Cubic → Subcurve
@@ -17,10 +18,11 @@ middleOf u0 u1 = (u0 ⊕ u1) ⊘ 2f
 
 -- the half at umin, and the half at umax
 unfoldable pub lowHalf : Subcurve → Subcurve
-lowHalf s = record { cp = splitOf (s .cp) .low; u0 = s .u0; u1 = middleOf (s .u0) (s .u1) }
+lowHalf s = record { cp = lowOf (s .cp); u0 = s .u0; u1 = middleOf (s .u0) (s .u1) }
 
 unfoldable pub highHalf : Subcurve → Subcurve
-highHalf s = record { cp = splitOf (s .cp) .high; u0 = middleOf (s .u0) (s .u1); u1 = s .u1 }
+highHalf s = record { cp = highOf (s .cp); u0 = middleOf (s .u0) (s .u1); u1 = s .u1 }
 
-unfoldable pub halvesOf : Subcurve → Halves
-halvesOf s = record { low = lowHalf s; high = highHalf s }
+-- from its control points as floats that are lent
+unfoldable pub subcurveIn : List Float → Float → Float → Subcurve
+subcurveIn l u0 u1 = record { cp = cubicIn l; u0 = u0; u1 = u1 }

@@ -2,8 +2,11 @@
 use mathlib.Core.Bool.{Bool, _||_}
 use lib.Ieee.{Float, lt}
 use Rattle.float.specs.Arith.{_⊕_, _⊖_, _⊗_, 0f, half}
-use Rattle.float.specs.Basic.{maxOf, minOf}
+use Rattle.float.specs.Basic.{maxOf}
+use Rattle.bezier.specs.declared.axis.Axis.{Axis}
 use Rattle.bezier.specs.declared.cubic.Cubic.{Cubic}
+use Rattle.bezier.specs.Axis.{leastIn, greatestIn}
+use Rattle.bezier.specs.Polygon.{axisOf}
 use Rattle.curve.specs.declared.curve.Curve.{Curve}
 use Rattle.curve.specs.Curve.{widthAt}
 use Rattle.overlap.specs.declared.subcurve.Subcurve.{Subcurve}
@@ -12,35 +15,33 @@ use Rattle.overlap.specs.declared.subcurve.Subcurve.{Subcurve}
 unfoldable pub halfWidth : Curve → Float → Float → Float
 halfWidth c u0 u1 = half ⊗ maxOf (widthAt c u0) (widthAt c u1)
 
--- the largest of the four + w < 0, or the least of the four - w > limit
-unfoldable pub isOff : Float → Float → Float → Float → Float → Float → Bool
-isOff a b c d w limit = lt (maxOf (maxOf a b) (maxOf c d) ⊕ w) 0f || lt limit (minOf (minOf a b) (minOf c d) ⊖ w)
+-- a coordinate of four points is off: the largest of the four + w < 0, or the least of the four - w > limit
+unfoldable pub isOff : Axis → Float → Float → Bool
+isOff a w limit = lt (greatestIn a ⊕ w) 0f || lt limit (leastIn a ⊖ w)
 
 unfoldable pub isOffY : Cubic → Float → Bool
-isOffY cp w = isOff (cp .p0 .y) (cp .p1 .y) (cp .p2 .y) (cp .p3 .y) w 0f
+isOffY cp w = isOff (axisOf cp 1) w 0f
 
 unfoldable pub isOffX : Cubic → Float → Bool
-isOffX cp w = isOff (cp .p0 .x) (cp .p1 .x) (cp .p2 .x) (cp .p3 .x) w 0f
+isOffX cp w = isOff (axisOf cp 0) w 0f
 
 unfoldable pub isOffZ : Cubic → Float → Float → Bool
-isOffZ cp w zmax = isOff (cp .p0 .z) (cp .p1 .z) (cp .p2 .z) (cp .p3 .z) w zmax
+isOffZ cp w zmax = isOff (axisOf cp 2) w zmax
 
 -- the whole's test in z: the least of the four PLUS w > zmax
-unfoldable pub isOffZWhole : Cubic → Float → Float → Bool
-isOffZWhole cp w zmax =
-    lt (maxOf (maxOf (cp .p0 .z) (cp .p1 .z)) (maxOf (cp .p2 .z) (cp .p3 .z)) ⊕ w) 0f
-    || lt zmax (minOf (minOf (cp .p0 .z) (cp .p1 .z)) (minOf (cp .p2 .z) (cp .p3 .z)) ⊕ w)
+unfoldable pub isOffZWhole : Axis → Float → Float → Bool
+isOffZWhole z w zmax = lt (greatestIn z ⊕ w) 0f || lt zmax (leastIn z ⊕ w)
 
 -- a half of half the width w is thrown out: the tests of recursive_intersect
-unfoldable pub isThrownBy : Float → Float → Subcurve → Bool
-isThrownBy w zmax s = isOffY (s .cp) w || isOffX (s .cp) w || isOffZ (s .cp) w zmax
+unfoldable pub isThrownBy : Float → Float → Cubic → Bool
+isThrownBy w zmax cp = isOffY cp w || isOffX cp w || isOffZ cp w zmax
 
 unfoldable pub isThrown : Curve → Float → Subcurve → Bool
-isThrown c zmax s = isThrownBy (halfWidth c (s .u0) (s .u1)) zmax s
+isThrown c zmax s = isThrownBy (halfWidth c (s .u0) (s .u1)) zmax (s .cp)
 
 -- the whole is thrown out: the tests of intersect
-unfoldable pub isWholeThrownBy : Float → Float → Subcurve → Bool
-isWholeThrownBy w zmax s = isOffY (s .cp) w || isOffX (s .cp) w || isOffZWhole (s .cp) w zmax
+unfoldable pub isWholeThrownBy : Float → Float → Cubic → Bool
+isWholeThrownBy w zmax cp = isOffY cp w || isOffX cp w || isOffZWhole (axisOf cp 2) w zmax
 
 unfoldable pub isWholeThrown : Curve → Float → Subcurve → Bool
-isWholeThrown c zmax s = isWholeThrownBy (halfWidth c (s .u0) (s .u1)) zmax s
+isWholeThrown c zmax s = isWholeThrownBy (halfWidth c (s .u0) (s .u1)) zmax (s .cp)

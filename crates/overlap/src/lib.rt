@@ -6,9 +6,8 @@ mod subcurve;
 mod thrown;
 
 pub use depth::max_depth;
-pub use subcurve::Halves;
 pub use subcurve::Subcurve;
-pub use subcurve::halve;
+pub use subcurve::middle;
 pub use subcurve::whole;
 pub use thrown::half_width;
 pub use thrown::is_thrown;

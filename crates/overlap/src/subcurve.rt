@@ -1,11 +1,10 @@
-// Parts of a curve in the ray's frame, and their halves.
+// Parts of a curve in the ray's frame.
 ghost use mathlib.Core.Path.{_≡_};
 ghost use Prim.Native.Nat.{_≤_};
 ghost use lib.ListN.{length};
 ghost use Rattle.curve.specs.Layout.{floats, curveFrom};
-ghost use Rattle.overlap.specs.Subcurve.{wholeOf, middleOf, halvesOf};
+ghost use Rattle.overlap.specs.Subcurve.{wholeOf, middleOf};
 use bezier::Cubic;
-use bezier::subdivide_bezier;
 use curve::UMAX;
 use curve::UMIN;
 
@@ -29,33 +28,9 @@ pub fn whole(curve: &[f32], cp: Cubic) -> Subcurve
     }
 }
 
-pub struct Halves {
-    pub low: Subcurve,
-    pub high: Subcurve,
-}
-
-fn middle(u0: f32, u1: f32) -> f32
+// Where a subcurve is cut in two.
+pub fn middle(u0: f32, u1: f32) -> f32
     ensures { λ r. ⌜ r ≡ middleOf u0 u1 ⌝ }
 {
     (u0 + u1) / 2.0
-}
-
-pub fn halve(s: Subcurve) -> Halves
-    ensures { λ r. ⌜ r ≡ halvesOf s ⌝ }
-{
-    let split = subdivide_bezier(s.cp);
-    let u = middle(s.u0, s.u1);
-    let low_cp = split.low;
-    let high_cp = split.high;
-    let low = Subcurve {
-        cp: low_cp,
-        u0: s.u0,
-        u1: u,
-    };
-    let high = Subcurve {
-        cp: high_cp,
-        u0: u,
-        u1: s.u1,
-    };
-    Halves { low, high }
 }

@@ -2,10 +2,14 @@
 ghost use mathlib.Core.Path.{_≡_};
 ghost use Prim.Native.Nat.{_≤_};
 ghost use lib.ListN.{length};
+ghost use Rattle.bezier.specs.Points.{cubicIn};
 ghost use Rattle.curve.specs.Layout.{floats, curveFrom};
 ghost use Rattle.overlap.specs.Thrown.{halfWidth, isOff, isOffZWhole, isThrownBy, isWholeThrownBy};
-use crate::subcurve::Subcurve;
-use bezier::Cubic;
+use bezier::Axis;
+use bezier::POINTS;
+use bezier::axis_in;
+use bezier::greatest;
+use bezier::least;
 use curve::width_at;
 
 // Half the larger of the widths at a subcurve's ends. The curve is one that passed refusal 9.
@@ -16,46 +20,42 @@ pub fn half_width(curve: &[f32], u0: f32, u1: f32) -> f32
     0.5 * float::max(width_at(curve, u0), width_at(curve, u1))
 }
 
-// Whether four coordinates lie all below zero or all above the limit, by more than w.
-fn is_off(a: f32, b: f32, c: f32, d: f32, w: f32, limit: f32) -> bool
-    ensures { λ r. ⌜ r ≡ isOff a b c d w limit ⌝ }
+// Whether a coordinate of four points lies below zero or above the limit in all of them, by more than w.
+fn is_off(a: Axis, w: f32, limit: f32) -> bool
+    ensures { λ r. ⌜ r ≡ isOff a w limit ⌝ }
 {
-    let top = float::max(float::max(a, b), float::max(c, d));
-    let bottom = float::min(float::min(a, b), float::min(c, d));
-    (top + w < 0.0) | (bottom - w > limit)
+    (greatest(a) + w < 0.0) | (least(a) - w > limit)
 }
 
 // The whole's test in z, as `intersect` has it: with a plus.
-fn is_off_z_whole(cp: Cubic, w: f32, zmax: f32) -> bool
-    ensures { λ r. ⌜ r ≡ isOffZWhole cp w zmax ⌝ }
+fn is_off_z_whole(z: Axis, w: f32, zmax: f32) -> bool
+    ensures { λ r. ⌜ r ≡ isOffZWhole z w zmax ⌝ }
 {
-    let top = float::max(float::max(cp.p0.z, cp.p1.z), float::max(cp.p2.z, cp.p3.z));
-    let bottom = float::min(float::min(cp.p0.z, cp.p1.z), float::min(cp.p2.z, cp.p3.z));
-    (top + w < 0.0) | (bottom + w > zmax)
+    (greatest(z) + w < 0.0) | (least(z) + w > zmax)
 }
 
 // Whether a half is thrown out, with half its width. First y, the extent of which is the smallest as a rule.
-pub fn is_thrown(w: f32, zmax: f32, s: Subcurve) -> bool
-    ensures { λ r. ⌜ r ≡ isThrownBy w zmax s ⌝ }
+pub fn is_thrown(w: f32, zmax: f32, p: &[f32; POINTS]) -> bool
+    ensures { λ r. ⌜ r ≡ isThrownBy w zmax (cubicIn (now (p .entry))) ⌝ }
 {
-    if is_off(s.cp.p0.y, s.cp.p1.y, s.cp.p2.y, s.cp.p3.y, w, 0.0) {
+    if is_off(axis_in(p, 1), w, 0.0) {
         true
-    } else if is_off(s.cp.p0.x, s.cp.p1.x, s.cp.p2.x, s.cp.p3.x, w, 0.0) {
+    } else if is_off(axis_in(p, 0), w, 0.0) {
         true
     } else {
-        is_off(s.cp.p0.z, s.cp.p1.z, s.cp.p2.z, s.cp.p3.z, w, zmax)
+        is_off(axis_in(p, 2), w, zmax)
     }
 }
 
 // Whether the whole is thrown out, with half its width.
-pub fn is_whole_thrown(w: f32, zmax: f32, s: Subcurve) -> bool
-    ensures { λ r. ⌜ r ≡ isWholeThrownBy w zmax s ⌝ }
+pub fn is_whole_thrown(w: f32, zmax: f32, p: &[f32; POINTS]) -> bool
+    ensures { λ r. ⌜ r ≡ isWholeThrownBy w zmax (cubicIn (now (p .entry))) ⌝ }
 {
-    if is_off(s.cp.p0.y, s.cp.p1.y, s.cp.p2.y, s.cp.p3.y, w, 0.0) {
+    if is_off(axis_in(p, 1), w, 0.0) {
         true
-    } else if is_off(s.cp.p0.x, s.cp.p1.x, s.cp.p2.x, s.cp.p3.x, w, 0.0) {
+    } else if is_off(axis_in(p, 0), w, 0.0) {
         true
     } else {
-        is_off_z_whole(s.cp, w, zmax)
+        is_off_z_whole(axis_in(p, 2), w, zmax)
     }
 }
