@@ -18,7 +18,7 @@
  *
  * The floating-point environment: answers are the promised bits under round to nearest with subnormals kept, as a C
  * program starts. One that is linked with -ffast-math or -Ofast turns subnormals off at its start: it gets other bits,
- * and other refusals too. So does a thread in which the rounding mode or MXCSR's FTZ or DAZ bit was set.
+ * and other refusals too. So does a thread that changed the rounding mode, or set FTZ or DAZ in MXCSR.
  */
 #ifndef CURVE_H
 #define CURVE_H
@@ -117,7 +117,10 @@ enum {
     /* The beams of a sheet, a ray each. */
     CURVE_BEAMS_FLOATS = CURVE_MOST_BEAMS * CURVE_RAY_FLOATS,
 
-    /* The record of a hit, in the object's frame. */
+    /*
+     * The record of a hit, in the object's frame. Seen along the ray, v is over 0.5 to the right of the way in which
+     * the curve runs and under 0.5 to the left, where x, y and z are right-handed: over 0.5 is the side of d x dpdu.
+     */
     CURVE_RECORD_T = 0,         /* the distance, in lengths of the ray's direction */
     CURVE_RECORD_U = 1,         /* along the segment, between the piece's umin and umax */
     CURVE_RECORD_V = 2,         /* across it: 0.5 in the middle, 0 and 1 at the edges */

@@ -142,13 +142,14 @@ pub struct Ray {
 pub struct SurfaceInteraction {
     /// The distance, in lengths of the ray's direction.
     pub t_hit: f32,
-    /// Where along the curve, from 0 to 1.
+    /// Where along the segment, between the curve's umin and umax.
     pub u: f32,
-    /// Where across the curve, 0.5 in its middle.
+    /// Where across the curve: 0.5 in its middle, 0 and 1 at its edges. Seen along the ray it is over 0.5 to the right
+    /// of the way in which the curve runs, where x, y and z are right-handed.
     pub v: f32,
-    /// The point.
+    /// The ray's point at that distance.
     pub p: [f32; 3],
-    /// The point's error, in each coordinate.
+    /// The point's error, in each coordinate: twice the width there.
     pub p_error: [f32; 3],
     /// The ray's time.
     pub time: f32,
@@ -158,7 +159,7 @@ pub struct SurfaceInteraction {
     pub n: [f32; 3],
     /// The derivative along the curve.
     pub dpdu: [f32; 3],
-    /// The derivative across the curve.
+    /// The vector across the curve, as long as it is wide there.
     pub dpdv: [f32; 3],
 }
 
