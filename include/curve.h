@@ -1,18 +1,24 @@
 /*
  * Flat curves and rays: where a scanner's beam meets a curved belt.
  *
- * Link with target/staticlib/libcurve_c.a (x86-64), which `rt staticlib curve_c` proves and writes.
+ * Link with target/staticlib/libcurve_c.a (x86-64), which `rt staticlib curve_c` proves and writes; or, where
+ * tools/install put it, with what `pkg-config --cflags --libs curve_c` says.
  *
- * Every function ends, for every input, and returns 0 with its answer, or the number of a refusal; the README has
- * a table of them. curve_intersect also returns 1, for a miss. A refusal leaves every output as it was, but for
- * out[CURVE_SHEET_LINE] of curve_sheet, which is written with every reply. Nothing is allocated, no function keeps
- * a pointer, and calls from several threads at once are safe as long as their outputs differ.
+ * Every function ends, for every input, and returns CURVE_DONE with its answer, or the number of a refusal.
+ * curve_intersect returns CURVE_HIT, CURVE_MISS, or the number of a refusal. A refusal leaves every output as it was,
+ * but for out[CURVE_SHEET_LINE] of curve_sheet, which is written with every reply. Nothing is allocated, no function
+ * keeps a pointer, and calls from several threads at once are safe as long as their outputs differ.
  *
- * What C cannot say and a caller owes: a pointer is not NULL and has room for its length (or for the array
- * that is named), and an output overlaps neither an input nor another output.
+ * What C cannot say and a caller owes: a pointer has room for its length (or for the array that is named) and is
+ * aligned as C asks of its type, and an output overlaps neither an input nor another output. A pointer that goes with
+ * a length may be NULL where the length is 0; no other may be NULL.
  *
  * Lengths count floats, or bytes in curve_sheet. Floats are IEEE 754 binary32. A NaN that is written has
- * unspecified bits.
+ * unspecified bits. One unit is a metre.
+ *
+ * The floating-point environment: answers are the promised bits under round to nearest with subnormals kept, as a C
+ * program starts. One that is linked with -ffast-math or -Ofast turns subnormals off at its start: it gets other bits,
+ * and other refusals too. So does a thread that changed the rounding mode, or set FTZ or DAZ in MXCSR.
  */
 #ifndef CURVE_H
 #define CURVE_H
@@ -25,6 +31,61 @@ extern "C" {
 #endif
 
 /*
+ * What a call returns. Of several reasons to refuse the first is told: by the numbers, but of a sheet 18 and 17 before
+ * the others, and 12 and 13 in the order in which the ray's frame meets them.
+ */
+enum {
+    CURVE_DONE = 0,                     /* the answer is written */
+
+    /* Of curve_intersect. */
+    CURVE_HIT = 0,                      /* the record is written */
+    CURVE_MISS = 1,                     /* the ray does not meet the piece */
+
+    /* Refusals. */
+    CURVE_REFUSED_DEGREE = 1,           /* it is not 2 or 3 */
+    CURVE_REFUSED_BASIS = 2,            /* it is not 0 or 1 */
+    CURVE_REFUSED_POINT_COUNT = 3,      /* no whole segments, or the floats are not in threes */
+    CURVE_REFUSED_TYPE = 4,             /* it is not 0 */
+    CURVE_REFUSED_SPLIT_DEPTH = 5,      /* it is over 10 */
+    CURVE_REFUSED_TOO_MANY = 6,         /* over 256 points, or over CURVE_MOST_PIECES pieces */
+    CURVE_REFUSED_POINTS_OR_WIDTHS = 7, /* a coordinate or a width is off limits */
+    CURVE_REFUSED_LIST_TOO_SHORT = 8,   /* for CURVE_FLOATS floats a piece */
+    CURVE_REFUSED_CURVE = 9,            /* the floats are not a piece within the limits */
+    CURVE_REFUSED_MATRIX = 10,          /* an entry is off limits */
+    CURVE_REFUSED_RAY = 11,             /* an origin, direction, time or t_max is off limits */
+    CURVE_REFUSED_ZERO_WEIGHT = 12,     /* of a point under a matrix */
+    CURVE_REFUSED_NO_FRAME = 13,        /* a direction has length zero where the ray's frame is made */
+    CURVE_REFUSED_ZERO_DERIVATIVE = 14, /* along the curve, at the hit */
+    CURVE_REFUSED_ZERO_ACROSS = 15,     /* the vector across the curve has length zero at the hit */
+    CURVE_REFUSED_ZERO_NORMAL = 16,     /* the normal or the direction back has length zero at the hit */
+    CURVE_REFUSED_WRONG_LINE = 17,      /* of a sheet, or a missing one: out[CURVE_SHEET_LINE] */
+    CURVE_REFUSED_SHEET_TOO_LONG = 18   /* over 65,536 bytes */
+};
+
+/* What curve_create takes. */
+enum {
+    CURVE_BASIS_BEZIER = 0,     /* segments share their end points */
+    CURVE_BASIS_BSPLINE = 1,    /* segments share all points but one */
+
+    CURVE_TYPE_FLAT = 0,        /* a strip that turns its width to every ray */
+    CURVE_TYPE_RIBBON = 1,      /* refused */
+    CURVE_TYPE_CYLINDER = 2     /* refused */
+};
+
+/*
+ * How many bytes of stack are enough for a call, below its caller's frame. bindings/c/stack.c measures the calls: each
+ * needs at least half of its figure.
+ */
+enum {
+    CURVE_STACK_CREATE = 256,
+    CURVE_STACK_OBJECT_BOUND = 128,
+    CURVE_STACK_WORLD_BOUND = 512,
+    CURVE_STACK_AREA = 384,
+    CURVE_STACK_INTERSECT = 8192,
+    CURVE_STACK_SHEET = 40960
+};
+
+/*
  * How long the arrays are, and where each number stands in them. This is one enum, since C++ does not like to
  * multiply constants of two.
  */
@@ -32,8 +93,8 @@ enum {
     CURVE_MOST_PIECES = 1024,   /* that curve_create writes */
     CURVE_MOST_BEAMS = 64,      /* of a sheet */
 
-    /* A piece. */
-    CURVE_POINTS = 0,           /* four points, x y z each */
+    /* A piece: the part of a segment between two values of u. */
+    CURVE_POINTS = 0,           /* the segment's four control points, x y z each */
     CURVE_WIDTH0 = 12,          /* the width where u is 0 */
     CURVE_WIDTH1 = 13,          /* the width where u is 1 */
     CURVE_UMIN = 14,            /* the u at which the piece begins */
@@ -48,39 +109,42 @@ enum {
 
     /* A ray. */
     CURVE_RAY_O = 0,            /* the origin, x y z */
-    CURVE_RAY_D = 3,            /* the direction, x y z */
-    CURVE_RAY_T_MAX = 6,
-    CURVE_RAY_TIME = 7,
+    CURVE_RAY_D = 3,            /* the direction, x y z, of any length but zero */
+    CURVE_RAY_T_MAX = 6,        /* how far it goes, in lengths of the direction; may be infinite */
+    CURVE_RAY_TIME = 7,         /* the time that a hit will carry */
     CURVE_RAY_FLOATS = 8,
 
     /* The beams of a sheet, a ray each. */
     CURVE_BEAMS_FLOATS = CURVE_MOST_BEAMS * CURVE_RAY_FLOATS,
 
-    /* The record of a hit, in the object's frame. */
-    CURVE_RECORD_T = 0,         /* the distance */
-    CURVE_RECORD_U = 1,         /* along the curve */
-    CURVE_RECORD_V = 2,         /* across it */
-    CURVE_RECORD_P = 3,         /* the point, x y z */
-    CURVE_RECORD_ERROR = 6,     /* the point's error in x y z */
-    CURVE_RECORD_TIME = 9,
-    CURVE_RECORD_WO = 10,       /* the direction back along the ray, x y z */
-    CURVE_RECORD_N = 13,        /* the normal, x y z */
-    CURVE_RECORD_DPDU = 16,     /* x y z */
-    CURVE_RECORD_DPDV = 19,     /* x y z */
+    /*
+     * The record of a hit, in the object's frame. Seen along the ray, v is over 0.5 to the right of the way in which
+     * the curve runs and under 0.5 to the left, where x, y and z are right-handed: over 0.5 is the side of d x dpdu.
+     */
+    CURVE_RECORD_T = 0,         /* the distance, in lengths of the ray's direction */
+    CURVE_RECORD_U = 1,         /* along the segment, between the piece's umin and umax */
+    CURVE_RECORD_V = 2,         /* across it: 0.5 in the middle, 0 and 1 at the edges */
+    CURVE_RECORD_P = 3,         /* the ray's point at that distance, x y z */
+    CURVE_RECORD_ERROR = 6,     /* the point's error in x y z: twice the width there */
+    CURVE_RECORD_TIME = 9,      /* the ray's */
+    CURVE_RECORD_WO = 10,       /* the direction back along the ray, x y z, of length one */
+    CURVE_RECORD_N = 13,        /* the normal, x y z, of length one */
+    CURVE_RECORD_DPDU = 16,     /* the derivative along the curve, x y z */
+    CURVE_RECORD_DPDV = 19,     /* the vector across the curve, x y z, as long as it is wide there */
     CURVE_RECORD_FLOATS = 22,
 
     /* What curve_sheet says of a sheet. */
-    CURVE_SHEET_PIECES = 0,
-    CURVE_SHEET_REVERSE = 1,    /* 0 or 1 */
-    CURVE_SHEET_BEAMS = 2,
-    CURVE_SHEET_LINE = 3,
+    CURVE_SHEET_PIECES = 0,     /* how many were written */
+    CURVE_SHEET_REVERSE = 1,    /* whether normals turn, 0 or 1 */
+    CURVE_SHEET_BEAMS = 2,      /* how many it has */
+    CURVE_SHEET_LINE = 3,       /* the wrong line, from 1, with CURVE_REFUSED_WRONG_LINE, else 0 */
     CURVE_SHEET_NUMBERS = 4
 };
 
 /*
  * Makes pieces of a curve and writes them to `list`, CURVE_FLOATS floats each. `points` has three floats a point.
- * degree: 2 or 3. basis: 0 Bezier, 1 B-spline. type: 0 flat. Each segment yields 2^splitdepth pieces.
- * Answers 0 and sets *pieces, or one of 1 to 8.
+ * degree: 2 or 3. basis: CURVE_BASIS_BEZIER or _BSPLINE. type: CURVE_TYPE_FLAT. Each segment yields 2^splitdepth
+ * pieces. Answers 0 and sets *pieces, or one of 1 to 8.
  */
 uint32_t curve_create(const float *points, size_t len, uint32_t degree, uint32_t basis, uint32_t type,
                       float width0, float width1, uint32_t splitdepth, float *list, size_t list_len,

@@ -28,7 +28,7 @@ static const float along[POINTS_FLOATS] = {-1, 0, 4, 1, 0, 5, -1, 0, 6, 1, 0, 7}
 /* Ends the program where a number is refused that should not be. */
 static void accepted(const char *call, uint32_t number)
 {
-    if (number != 0) {
+    if (number != CURVE_DONE) {
         fprintf(stderr, "%s is refused by %u\n", call, (unsigned)number);
         exit(1);
     }
@@ -40,7 +40,8 @@ static void lay(const float points[POINTS_FLOATS], float width, float piece[CURV
     uint32_t pieces;
 
     accepted("curve_create",
-             curve_create(points, POINTS_FLOATS, 3, 0, 0, width, width, 0, piece, CURVE_FLOATS, &pieces));
+             curve_create(points, POINTS_FLOATS, 3, CURVE_BASIS_BEZIER, CURVE_TYPE_FLAT, width, width, 0, piece,
+                          CURVE_FLOATS, &pieces));
     printf("pieces=%u width=%g,%g u=%g,%g\n", (unsigned)pieces, piece[CURVE_WIDTH0], piece[CURVE_WIDTH1],
            piece[CURVE_UMIN], piece[CURVE_UMAX]);
 }
@@ -53,10 +54,10 @@ static void shoot(const float piece[CURVE_FLOATS], float x)
     uint32_t looked;
     uint32_t number = curve_intersect(piece, CURVE_FLOATS, identity, identity, 0, ray, record, &looked);
 
-    if (number == 0) {
+    if (number == CURVE_HIT) {
         printf("t=%g u=%g v=%g looked=%u\n", record[CURVE_RECORD_T], record[CURVE_RECORD_U],
                record[CURVE_RECORD_V], (unsigned)looked);
-    } else if (number == 1) {
+    } else if (number == CURVE_MISS) {
         printf("miss looked=%u\n", (unsigned)looked);
     } else {
         printf("refused=%u\n", (unsigned)number);
@@ -90,6 +91,7 @@ int main(void)
 
     /* No belt has degree 4. */
     printf("refused=%u\n",
-           (unsigned)curve_create(straight, POINTS_FLOATS, 4, 0, 0, 1, 1, 0, piece, CURVE_FLOATS, &pieces));
+           (unsigned)curve_create(straight, POINTS_FLOATS, 4, CURVE_BASIS_BEZIER, CURVE_TYPE_FLAT, 1, 1, 0, piece,
+                                  CURVE_FLOATS, &pieces));
     return 0;
 }

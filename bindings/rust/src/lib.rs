@@ -5,7 +5,15 @@
 //! [`create_curve_shape`] lays curves into a list, [`CURVE_FLOATS`] floats each: four control points, two widths,
 //! umin and umax. The other calls take one curve out of it. Every call ends with an answer or with a
 //! [`Refusal`], for every input, and a refusal leaves the list as it was. Nothing panics, and nothing is
-//! allocated but the beams of a [`Sheet`].
+//! allocated but the beams of a [`Sheet`]. Lengths are in metres.
+//!
+//! # The floating-point environment
+//!
+//! Answers are the promised bits under round to nearest with subnormals kept, as a Rust program starts. Code in another
+//! language can turn subnormals off: a shared library that gcc before 13 linked with `-ffast-math` does, as it is
+//! loaded. Then answers have other bits, and other calls are refused.
+//!
+//! # Example
 //!
 //! A straight belt from x = -3 to 3 at z = 4, and a beam up from the origin, which meets it at distance 4,
 //! half way along and in its middle:
@@ -48,6 +56,8 @@
 mod declared;
 #[allow(unsafe_code)]
 mod ffi;
+#[cfg(test)]
+mod header;
 mod layout;
 mod refusal;
 
@@ -132,13 +142,14 @@ pub struct Ray {
 pub struct SurfaceInteraction {
     /// The distance, in lengths of the ray's direction.
     pub t_hit: f32,
-    /// Where along the curve, from 0 to 1.
+    /// Where along the segment, between the curve's umin and umax.
     pub u: f32,
-    /// Where across the curve, 0.5 in its middle.
+    /// Where across the curve: 0.5 in its middle, 0 and 1 at its edges. Seen along the ray it is over 0.5 to the right
+    /// of the way in which the curve runs, where x, y and z are right-handed.
     pub v: f32,
-    /// The point.
+    /// The ray's point at that distance.
     pub p: [f32; 3],
-    /// The point's error, in each coordinate.
+    /// The point's error, in each coordinate: twice the width there.
     pub p_error: [f32; 3],
     /// The ray's time.
     pub time: f32,
@@ -148,7 +159,7 @@ pub struct SurfaceInteraction {
     pub n: [f32; 3],
     /// The derivative along the curve.
     pub dpdu: [f32; 3],
-    /// The derivative across the curve.
+    /// The vector across the curve, as long as it is wide there.
     pub dpdv: [f32; 3],
 }
 
@@ -251,12 +262,11 @@ pub fn intersect(
 /// [`Refusal`] 17 and 18, and those of [`create_curve_shape`]; and then the list is as it was.
 pub fn read_sheet(bytes: &[u8], list: &mut [f32]) -> Result<Sheet, SheetRefusal> {
     let (number, beams, said) = ffi::sheet(bytes, list);
-    let (rays, _) = beams.as_chunks();
     let sheet = Sheet {
         curves: said[SHEET_PIECES],
         reverse: said[SHEET_REVERSE] == 1,
-        beams: rays
-            .iter()
+        beams: beams
+            .chunks_exact(RAY_FLOATS)
             .take(said[SHEET_BEAMS] as usize)
             .map(Ray::from_floats)
             .collect(),
@@ -292,7 +302,7 @@ impl Bounds3 {
 }
 
 impl Ray {
-    fn from_floats(ray: &[f32; RAY_FLOATS]) -> Ray {
+    fn from_floats(ray: &[f32]) -> Ray {
         Ray {
             o: triple(ray, RAY_O),
             d: triple(ray, RAY_D),

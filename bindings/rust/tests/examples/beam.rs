@@ -41,6 +41,38 @@ fn the_distance_counts_lengths_of_the_direction() {
     assert_eq!([hit.t_hit, hit.u, hit.v], [8.0, 0.75, 0.5]);
 }
 
+/// The belt runs along x. Seen from below, along the beam, y points to the right of it, and seen from above to the left.
+#[test]
+fn v_is_over_a_half_to_the_right() {
+    for [y, z, d, v] in [
+        [0.25, 0.0, 1.0, 0.75],
+        [-0.25, 0.0, 1.0, 0.25],
+        [0.25, 8.0, -1.0, 0.25],
+        [-0.25, 8.0, -1.0, 0.75],
+    ] {
+        let ray = Ray {
+            o: [0.0, y, z],
+            d: [0.0, 0.0, d],
+            ..UP
+        };
+        assert_eq!(hit_of(shot(&straight(), &ray)).0.v, v);
+    }
+}
+
+/// The belt is at z = 4 and one wide: a level beam meets it that passes less than half a width above or below.
+#[test]
+fn the_belt_turns_its_width_to_a_beam_from_the_side() {
+    for (z, met) in [(4.375, true), (3.625, true), (4.625, false)] {
+        let ray = Ray {
+            o: [0.0, -5.0, z],
+            d: [0.0, 1.0, 0.0],
+            ..UP
+        };
+        let answer = shot(&straight(), &ray);
+        assert_eq!(matches!(answer, Ok(Intersection::Hit(..))), met);
+    }
+}
+
 #[test]
 fn normals_turn_with_the_flag_and_with_a_mirror() {
     let mut mirror = IDENTITY;
