@@ -54,7 +54,7 @@ def draw(sheet_path: str, path: str | None, plane: str) -> str:
 
 
 def run(path: str, program: str | None, form: str, plane: str | None) -> tuple[str, str, int]:
-    """A sheet in decimal through beltbeam: its report in a form, its plan where a plane is given."""
+    """A sheet through beltbeam: its report in a form, and its plan where a plane is given."""
     sheet_name, sheet = display_name(path), written_sheet(path)
     belt = lay(sheet_name, sheet)
     program = find_program(program)
@@ -71,7 +71,7 @@ def run(path: str, program: str | None, form: str, plane: str | None) -> tuple[s
 def written_sheet(path: str) -> Sheet:
     """A sheet as its user writes it, which the library would not refuse."""
     name = display_name(path)
-    more = f"{refused(18)}; this one has over {MOST_OF_SHEET:,}, even if not finished"
+    more = f"{refused(18)}; this one has over {MOST_OF_SHEET:,} as it is"
     sheet = read_decimal(name, read_text(path, MOST_OF_SHEET, Refused(more)))
     check(name, sheet)
     return sheet

@@ -13,6 +13,14 @@ def display_name(path: str) -> str:
     return "standard input" if path == "-" else path
 
 
+def is_same(path: str, other: str) -> bool:
+    """Whether two paths name one file that would be lost if it were written over."""
+    try:
+        return "-" not in (path, other) and os.path.isfile(path) and os.path.samefile(path, other)
+    except OSError:
+        return False
+
+
 def read_text(path: str, most: int, too_long: BadInput) -> str:
     """The text of a file, its line ends as they are; one of too many bytes is not read on."""
     name = display_name(path)

@@ -94,8 +94,8 @@ def read_report(name: str, text: str) -> Report | RefusedSheet:
         raise wrong.at(f"{name}:{number}") from None
     if report is None:
         return read_answers(name, pieces, lines)
-    for number, _ in lines:
-        raise BadInput("expected the end behind refused=").at(f"{name}:{number}")
+    if next(lines, None):
+        raise BadInput("expected the end behind refused=").at(f"{name}:2")
     return report
 
 

@@ -50,7 +50,7 @@ Floats = tuple[int, ...]
 
 @dataclass(frozen=True)
 class Sheet:
-    """What a sheet says; floats are the bits of an f32, and rows have the numbers of their lines."""
+    """What a sheet says, floats as the bits of an f32, and the number of each row's line."""
 
     degree: int
     basis: str

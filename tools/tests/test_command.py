@@ -55,6 +55,17 @@ class Command(unittest.TestCase):
         source = EXAMPLES / "hall.belt"
         self.check_bad(2, "belt: examples/: cannot be written", "make", source, "-o", "examples/")
 
+    def test_an_input_is_not_written_over(self) -> None:
+        with tempfile.TemporaryDirectory() as folder:
+            path, link = Path(folder) / "one.belt", Path(folder) / "link"
+            path.write_text(text_of(EXAMPLES / "straight.belt"))
+            link.symlink_to(path)
+            self.check_bad(2, "is an input and would be written over", "make", path, "-o", link)
+            self.check_bad(2, "is an input and would be written over", "run", path, "--draw", path)
+            self.assertEqual(text_of(path), text_of(EXAMPLES / "straight.belt"))
+            out = Path(folder) / "out"
+            self.check_bad(2, "need a file each", "run", path, "--draw", out, "-o", out)
+
     def test_make_from_a_stream_and_into_a_file(self) -> None:
         source, sheet = text_of(EXAMPLES / "straight.belt"), text_of(EXAMPLES / "straight.sheet")
         self.assertEqual(run("make", stdin=source).stdout, sheet)
@@ -90,12 +101,10 @@ class Command(unittest.TestCase):
         cut = text_of(DATA / "hall.report").removesuffix("\n")
         sheet, words = EXAMPLES / "hall.sheet", "standard input:217: the last line is not ended"
         self.check_bad(2, words, "show", stdin=cut)
-        self.check_bad(2, words, "show", "--sheet", sheet, stdin=cut)
         self.check_bad(2, words, "draw", sheet, "-", stdin=cut)
         five = "".join(text_of(DATA / "hall.report").splitlines(keepends=True)[: 1 + 5 * 36])
-        self.check_bad(2, "5 beams, but ", "show", "--sheet", sheet, stdin=five)
-        self.check_bad(2, "5 beams, but ", "draw", sheet, "-", stdin=five)
         self.check_bad(2, "5 beams, but ", "show", "--json", "--sheet", sheet, stdin=five)
+        self.check_bad(2, "5 beams, but ", "draw", sheet, "-", stdin=five)
 
     def test_make_refuses_by_number(self) -> None:
         text = text_of(EXAMPLES / "hall.belt")
@@ -107,10 +116,10 @@ class Command(unittest.TestCase):
         deep = text_of(EXAMPLES / "hall.sheet").replace("splitdepth=2", "splitdepth=11")
         self.check_bad(1, "standard input:6: refused 5: ", "draw", "-", stdin=deep)
         self.check_bad(1, "refused 18: ", "draw", "-", stdin=deep + 65536 * "#")
-        report = DATA / "hall.report"
-        self.check_bad(1, "standard input:6: refused 5: ", "show", report, "--sheet", "-", stdin=deep)
-        self.check_bad(2, "standard input:6: splitdepth=: expected one or two",
-                       "show", report, "--sheet", "-", stdin=deep.replace("=11", "=111"))
+        beside = ("show", DATA / "hall.report", "--sheet", "-")
+        self.check_bad(1, "standard input:6: refused 5: ", *beside, stdin=deep)
+        wrong = deep.replace("=11", "=111")
+        self.check_bad(2, "standard input:6: splitdepth=: expected one", *beside, stdin=wrong)
 
     def test_a_refused_sheet_beside_its_report(self) -> None:
         wrong = text_of(EXAMPLES / "hall.sheet").replace("\n", "\r\n")

@@ -35,8 +35,9 @@ class Laying(unittest.TestCase):
         self.accept(BELT.replace("width0=1", "width0=1024").replace("th1=1", "th1=0.0009765625"))
 
     def test_a_degree(self) -> None:
+        reason = "refused 1: the degree is not 2 or 3"
         for degree in (0, 1, 4, 99):
-            self.change("degree=3", f"degree={degree}", "in:1: refused 1: the degree is not 2 or 3$")
+            self.change("degree=3", f"degree={degree}", f"in:1: {reason}$")
 
     def test_points_that_do_not_make_whole_segments(self) -> None:
         reason = "refused 3: the points do not make whole segments"

@@ -137,15 +137,16 @@ class Strict(unittest.TestCase):
             read_sheet("in", text)
 
     def test_the_belt_sheet_is_read_to_the_letter(self) -> None:
-        self.refuse(STRAIGHT.removesuffix("\n"), r"in:12: the last line is not ended by a line feed")
-        self.refuse(STRAIGHT.replace("\n", "\r\n"), "in:1: the line ends in CR LF, expected a line")
-        self.refuse(STRAIGHT.replace("t\n", "t\r\n"), "in:3: the line ends in CR LF, expected a line")
+        self.refuse(STRAIGHT.removesuffix("\n"), "in:12: the last line is not ended by a line feed")
+        ends = "the line ends in CR LF, expected a line feed"
+        self.refuse(STRAIGHT.replace("\n", "\r\n"), f"in:1: {ends}")
+        self.refuse(STRAIGHT.replace("t\n", "t\r\n"), f"in:3: {ends}")
         self.refuse(STRAIGHT.replace("type", "\ntype"), "in:3: expected key=value, found ''")
         self.refuse(STRAIGHT.replace("=c0", "=C0"), "in:8: point=: expected eight lower-case")
         self.refuse(STRAIGHT.replace("=c0", "= c0"), "in:8: point=: expected eight lower-case")
         self.refuse("# words\n" + STRAIGHT, "in:1: expected key=value")
         self.refuse("\ufeff" + STRAIGHT, "in:1: unknown key")
-        self.refuse(STRAIGHT.replace("flat", "round").removesuffix("\n"), "in:3: type=: expected flat")
+        self.refuse(STRAIGHT.replace("flat", "round").removesuffix("\n"), "in:3: type=: expected")
         self.refuse(STRAIGHT + "x" * 65536, "in: refused 18: the sheet has over 65,536 bytes")
 
 

@@ -37,8 +37,8 @@ class Csv(unittest.TestCase):
         self.assertEqual(csv_of("pieces=0\n"), NAMES + "\n")
 
     def test_a_refused_sheet(self) -> None:
-        rest = 11 * ","
-        self.assertEqual(csv_of("refused=17 line=3\n"), f"{NAMES}\n,,refused,17,{NO_LINE},3{rest},\n")
+        row = f",,refused,17,{NO_LINE},3" + 12 * ","
+        self.assertEqual(csv_of("refused=17 line=3\n"), f"{NAMES}\n{row}\n")
         self.assertIn("\n,,refused,5,the split depth is over 10,,", csv_of("refused=5 line=0\n"))
         self.assertIn('"the sheet has over 65,536 bytes"', csv_of("refused=18 line=0\n"))
 

@@ -8,6 +8,8 @@ from pathlib import Path
 from subprocess import CompletedProcess
 
 from support import DATA, EXAMPLES, HEAD, STRAIGHT_POINTS, TOOLS, UP, run, text_of
+from beltlib import commands
+from beltlib.errors import BadInput
 
 BUILT = TOOLS.parent / "target" / "bin" / "beltbeam"
 HALL = EXAMPLES / "hall.belt"
@@ -101,7 +103,9 @@ class Run(unittest.TestCase):
             (report.replace("pieces=36", "pieces=35"), ":37: expected beam=1 piece=0"),
             (report.replace("looked=1", "looked"), ":3: expected beam=, piece= and what"),
         ):
-            self.check_bad(self.hall(cut, "--draw", plan), 2, words)
+            with self.assertRaisesRegex(BadInput, words):
+                commands.run(str(HALL), str(self.printing(cut)), "table", "xy")
+        self.check_bad(self.hall(report[:-1], "--draw", plan), 2, ":217: the last line is not")
         self.assertFalse(plan.exists())
 
     def test_a_program_that_dies_or_prints_no_text(self) -> None:
@@ -155,10 +159,9 @@ class Run(unittest.TestCase):
     @unittest.skipUnless(os.access(BUILT, os.X_OK), "beltbeam is not built")
     def test_the_program_that_is_built(self) -> None:
         for path in sorted(EXAMPLES.glob("*.belt")):
-            done = run("run", path)
-            report = DATA / f"{path.stem}.report"
-            shown = run("show", report, "--sheet", path.with_suffix(".sheet"))
-            self.assertEqual((done.returncode, done.stdout), (0, shown.stdout), done.stderr)
+            text, _, status = commands.run(str(path), None, "table", None)
+            report, sheet = DATA / f"{path.stem}.report", path.with_suffix(".sheet")
+            self.assertEqual((text, status), commands.show(str(report), str(sheet), "table"))
 
 
 if __name__ == "__main__":

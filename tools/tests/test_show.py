@@ -125,7 +125,7 @@ class BadReports(unittest.TestCase):
         self.refuse("pieces=0\n" + HIT, "in:2: expected the end")
         self.refuse("refused=5 line=0\npieces=1\n", "in:2: expected the end behind refused=")
         beams = "".join(f"beam={beam} piece=0 looked=0 hit=0\n" for beam in range(65))
-        self.refuse("pieces=1\n" + beams, "in:66: expected the end, since there are at most 64 beams")
+        self.refuse("pieces=1\n" + beams, "in:66: expected the end, since there are at most 64")
 
     def test_every_cut_within_a_beam_is_seen(self) -> None:
         report = text_of(DATA / "spiral.report")
