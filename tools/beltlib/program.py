@@ -21,7 +21,8 @@ def find_program(given: str | None) -> str:
         if not found:
             raise BadInput("expected the program beltbeam, found none that can be run").at(named)
         return found
-    beside = Path(sys.argv[0]).resolve().parent / "beltbeam"
+    # A link to belt may stand beside the program; it is not followed.
+    beside = Path(sys.argv[0]).absolute().parent / "beltbeam"
     built = REPOSITORY / "target" / "bin" / "beltbeam"
     found = shutil.which(beside) or shutil.which(built) or shutil.which("beltbeam")
     if not found:

@@ -26,7 +26,7 @@ class Command(unittest.TestCase):
             self.assertIn(words, done.stdout)
             self.assertIn("exit status: 0 if all is well, 1 if a sheet or a beam", done.stdout)
 
-    def test_the_version_is_the_wrapper_s(self) -> None:
+    def test_the_version_is_that_of_the_wrapper(self) -> None:
         crate = text_of(TOOLS.parent / "bindings" / "rust" / "Cargo.toml")
         version = re.search('^version = "(.*)"$', crate, re.MULTILINE)[1]
         done = run("--version")

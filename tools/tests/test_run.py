@@ -19,7 +19,7 @@ class Run(unittest.TestCase):
     def setUp(self) -> None:
         holder = tempfile.TemporaryDirectory()
         self.addCleanup(holder.cleanup)
-        self.folder = Path(holder.name)
+        self.folder = Path(holder.name).resolve()
 
     def stand_in(self, body: str, name: str = "stand-in") -> Path:
         """A program in beltbeam's place."""
@@ -120,7 +120,7 @@ class Run(unittest.TestCase):
         done = self.hall(text_of(DATA / "hall.report"), "--draw", self.folder)
         self.check_bad(done, 2, "cannot be written: Is a directory")
 
-    def installed(self, *arguments: object, **environment: str) -> CompletedProcess:
+    def elsewhere(self, *arguments: object, **environment: str) -> CompletedProcess:
         """A run of belt at another place, where no beltbeam is built."""
         tools = self.folder / "elsewhere" / "tools"
         if not tools.exists():
@@ -130,27 +130,35 @@ class Run(unittest.TestCase):
 
     def test_where_the_program_is_looked_for(self) -> None:
         missing = "belt: beltbeam is not found: build it by rt check beltbeam, or name it"
-        self.check_bad(self.installed(PATH=str(self.folder)), 2, missing)
+        self.check_bad(self.elsewhere(PATH=str(self.folder)), 2, missing)
         report = text_of(DATA / "hall.report")
         self.printing(report).rename(self.folder / "beltbeam")
         path = f"{self.folder}:/bin:/usr/bin"
-        self.assertEqual(self.installed(PATH=path).returncode, 0)
+        self.assertEqual(self.elsewhere(PATH=path).returncode, 0)
         # Each further place comes before those tried so far.
         for place in ("target/bin/beltbeam", "tools/beltbeam"):
             wrong = self.folder / "elsewhere" / place
             wrong.parent.mkdir(parents=True, exist_ok=True)
             self.stand_in("echo pieces=1").rename(wrong)
-            done = self.installed(PATH=path)
-            self.check_bad(done, 2, f"{wrong.resolve()}: 1 pieces, but ")
+            done = self.elsewhere(PATH=path)
+            self.check_bad(done, 2, f"{wrong}: 1 pieces, but ")
         named = self.printing(report)
-        self.assertEqual(self.installed(PATH=path, BELTBEAM=str(named)).returncode, 0)
-        done = self.installed("--beltbeam", "/bin/false", PATH=path, BELTBEAM=str(named))
+        self.assertEqual(self.elsewhere(PATH=path, BELTBEAM=str(named)).returncode, 0)
+        done = self.elsewhere("--beltbeam", "/bin/false", PATH=path, BELTBEAM=str(named))
         self.check_bad(done, 2, "the report of /bin/false:1: expected a report")
+
+    def test_a_link_to_belt_beside_the_program(self) -> None:
+        (self.folder / "bin").mkdir()
+        (self.folder / "bin" / "belt").symlink_to(TOOLS / "belt")
+        self.printing(text_of(DATA / "hall.report")).rename(self.folder / "bin" / "beltbeam")
+        done = run("run", HALL, tool=self.folder / "bin" / "belt")
+        self.assertEqual((done.returncode, done.stderr), (0, ""))
+        self.assertTrue((self.folder / "sheet").exists())
 
     def test_a_named_program_that_cannot_be_run(self) -> None:
         words = "none: expected the program beltbeam, found none that can be run"
         self.check_bad(run("run", HALL, "--beltbeam", self.folder / "none"), 2, words)
-        self.check_bad(self.installed(BELTBEAM="none", PATH=""), 2, words)
+        self.check_bad(self.elsewhere(BELTBEAM="none", PATH=""), 2, words)
         bad = self.folder / "bad"
         bad.write_bytes(b"\x7fELF\0\0\0")
         bad.chmod(0o755)

@@ -11,17 +11,25 @@ from pathlib import Path
 
 from support import DATA, EXAMPLES, HEAD, TOOLS, text_of
 
-BELT = f"{shlex.quote(sys.executable)} -B {shlex.quote(str(TOOLS / 'belt'))}"
-HALL = EXAMPLES / "hall.belt"
-SHEET = EXAMPLES / "hall.sheet"
-REPORT = DATA / "hall.report"
+
+def word(path: Path) -> str:
+    """A path as a command line has it."""
+    return shlex.quote(str(path))
+
+
+BELT = f"{word(Path(sys.executable))} -B {word(TOOLS / 'belt')}"
+HALL = word(EXAMPLES / "hall.belt")
+SHEET = word(EXAMPLES / "hall.sheet")
+REPORT = word(DATA / "hall.report")
+REFUSED = word(DATA / "width100.report")
+MADE = text_of(EXAMPLES / "hall.sheet")
 
 
 class Streams(unittest.TestCase):
     def bash(self, command: str, status: int, words: str = "") -> subprocess.CompletedProcess:
         """A command line as a user types it, in which belt is the tool."""
         script = f"set -o pipefail\nbelt() {{ {BELT} \"$@\"; }}\n{command}"
-        done = subprocess.run(["bash", "-c", script], capture_output=True, text=True, timeout=20)
+        done = subprocess.run(["bash", "-c", script], capture_output=True, text=True, timeout=99)
         self.assertEqual(done.returncode, status, command + "\n" + done.stderr)
         self.assertIn(words, done.stderr)
         self.assertNotIn("Traceback", done.stderr)
@@ -35,7 +43,7 @@ class Streams(unittest.TestCase):
         self.bash("belt make <&-", 2, words)
         self.bash("belt show <&-", 2, words)
         self.bash("belt run - <&-", 2, words)
-        self.assertEqual(self.bash(f"belt make {HALL} <&-", 0).stdout, text_of(SHEET))
+        self.assertEqual(self.bash(f"belt make {HALL} <&-", 0).stdout, MADE)
 
     def test_a_closed_output(self) -> None:
         words = "belt: standard output: cannot be written: it is closed"
@@ -44,7 +52,7 @@ class Streams(unittest.TestCase):
         with tempfile.TemporaryDirectory() as folder:
             out = Path(folder) / "out"
             self.bash(f"belt make {HALL} -o {out} >&- <&-", 0)
-            self.assertEqual(text_of(out), text_of(SHEET))
+            self.assertEqual(text_of(out), MADE)
 
     def test_a_closed_error_output(self) -> None:
         self.assertEqual(self.bash("belt make none 2>&-", 2).stdout, "")
@@ -77,7 +85,7 @@ class Streams(unittest.TestCase):
             self.assertEqual(done.stdout.count("\n"), 1)
 
     def test_a_refusal_stops_a_pipeline(self) -> None:
-        self.bash(f"set -e; belt show {DATA / 'width100.report'} | cat; exit 7", 1)
+        self.bash(f"set -e; belt show {REFUSED} | cat; exit 7", 1)
 
     def test_a_full_disk(self) -> None:
         words = "cannot be written: No space left on device"
