@@ -20,8 +20,10 @@ MOST_OF_REPORT = 1 << 23
 
 
 def make(path: str) -> str:
-    """The belt sheet of a sheet in decimal."""
-    return written_sheet(path).text()
+    """The belt sheet of a sheet in decimal, if the library would not refuse it."""
+    name, sheet = written_sheet(path)
+    check(name, sheet)
+    return sheet.text()
 
 
 def show(path: str, sheet_path: str | None, form: str) -> tuple[str, int]:
@@ -55,7 +57,7 @@ def draw(sheet_path: str, path: str | None, plane: str) -> str:
 
 def run(path: str, program: str | None, form: str, plane: str | None) -> tuple[str, str, int]:
     """A sheet through beltbeam: its report in a form, and its plan where a plane is given."""
-    sheet_name, sheet = display_name(path), written_sheet(path)
+    sheet_name, sheet = written_sheet(path)
     belt = lay(sheet_name, sheet)
     program = find_program(program)
     name = f"the report of {program}"
@@ -68,13 +70,11 @@ def run(path: str, program: str | None, form: str, plane: str | None) -> tuple[s
     return text, drawing.draw(sheet, belt, report, plane) if plane else "", status
 
 
-def written_sheet(path: str) -> Sheet:
-    """A sheet as its user writes it, which the library would not refuse."""
+def written_sheet(path: str) -> tuple[str, Sheet]:
+    """A sheet as its user writes it and how messages name it."""
     name = display_name(path)
-    more = f"{refused(18)}; this one has over {MOST_OF_SHEET:,} as it is"
-    sheet = read_decimal(name, read_text(path, MOST_OF_SHEET, Refused(more)))
-    check(name, sheet)
-    return sheet
+    more = Refused(f"{refused(18)}; this one has over {MOST_OF_SHEET:,} as it is")
+    return name, read_decimal(name, read_text(path, MOST_OF_SHEET, more))
 
 
 def finished_text(path: str) -> str:
