@@ -4,14 +4,12 @@ import math
 from dataclasses import dataclass
 from itertools import accumulate, pairwise
 
-from beltlib.errors import BadInput
 from beltlib.floats import float_of_bits
-from beltlib.refusals import refused
+from beltlib.laying import check, segment_count
 from beltlib.sheet import Floats, Sheet
 
 Point = tuple[float, ...]
 
-LARGEST = 1_048_576
 STEPS = 64
 
 # Places and weights of Gauss's rule with five points on -1 to 1.
@@ -107,47 +105,15 @@ def run_of(segment: Segment) -> list[float]:
 
 def lay(name: str, sheet: Sheet) -> Belt:
     """The belt of a sheet that the library does not refuse."""
-    number = refusal_of(sheet)
-    if number:
-        raise BadInput(refused(number)).at(name)
+    check(name, sheet)
     return Belt(sheet)
-
-
-def refusal_of(sheet: Sheet) -> int:
-    """The number by which laying refuses a sheet, or 0."""
-    coordinates = [x for point in sheet.points for x in values(point)]
-    widths = values((sheet.width0, sheet.width1))
-    tests = (
-        (1, lambda: sheet.degree not in (2, 3)),
-        (3, lambda: not whole_segments(sheet)),
-        (4, lambda: sheet.type != "flat"),
-        (5, lambda: sheet.splitdepth > 10),
-        (6, lambda: len(sheet.points) > 256 or segment_count(sheet) << sheet.splitdepth > 1024),
-        (7, lambda: not all(abs(x) <= LARGEST for x in coordinates)),
-        (7, lambda: not all(1 / 1024 <= width <= 1024 for width in widths)),
-    )
-    return next((number for number, holds in tests if holds()), 0)
-
-
-def whole_segments(sheet: Sheet) -> bool:
-    """Whether the points make a whole number of segments."""
-    if sheet.basis == "bezier":
-        return (len(sheet.points) - 1) % sheet.degree == 0
-    return len(sheet.points) > sheet.degree
-
-
-def segment_count(sheet: Sheet) -> int:
-    """How many segments the points make."""
-    if sheet.basis == "bezier":
-        return (len(sheet.points) - 1) // sheet.degree
-    return len(sheet.points) - sheet.degree
 
 
 def segments_of(sheet: Sheet) -> list[Segment]:
     """The segments, with widths that go evenly from the belt's start to its end."""
     points = [values(point) for point in sheet.points]
     width0, width1 = values((sheet.width0, sheet.width1))
-    count = segment_count(sheet)
+    count = segment_count(sheet, len(sheet.points))
     stride = sheet.degree if sheet.basis == "bezier" else 1
     convert = CONVERSIONS[sheet.basis, sheet.degree]
 

@@ -21,6 +21,11 @@ REASONS = {
     18: "the sheet has over 65,536 bytes",
 }
 
+# Which of them are told of a beam, and which of a whole sheet; one of these comes with a line.
+OF_BEAM = range(9, 17)
+OF_SHEET = [number for number in REASONS if number not in OF_BEAM]
+WRONG_LINE = 17
+
 
 def refused(number: int) -> str:
     """A refusal and its reason."""

@@ -3,16 +3,21 @@
 import re
 from collections import Counter
 from dataclasses import dataclass
+from typing import Iterable
 
 from beltlib.errors import BadInput, quoted
 from beltlib.floats import float_of_bits
-from beltlib.refusals import REASONS
+from beltlib.laying import MOST_PIECES
+from beltlib.lines import ended_lines
+from beltlib.refusals import OF_BEAM, OF_SHEET, WRONG_LINE
+from beltlib.sheet import MOST_BEAMS
 
-REFUSED_SHEET = re.compile(r"refused=([0-9]{1,2}) line=([0-9]{1,5})")
-PIECES = re.compile(r"pieces=([0-9]{1,4})")
+NUMBER = "(0|[1-9][0-9]{0,4})"
+REFUSED_SHEET = re.compile(f"refused={NUMBER} line={NUMBER}")
+PIECES = re.compile(f"pieces={NUMBER}")
 ANSWER = re.compile(
-    r"beam=([0-9]{1,2}) piece=([0-9]{1,4}) (?:refused=([0-9]{1,2})|looked=([0-9]{1,4})"
-    r" (?:hit=0|hit=1 t=([0-9a-f]{8}) u=([0-9a-f]{8}) v=([0-9a-f]{8})))"
+    f"beam={NUMBER} piece={NUMBER} (?:refused={NUMBER}|looked={NUMBER}"
+    " (?:hit=0|hit=1 t=([0-9a-f]{8}) u=([0-9a-f]{8}) v=([0-9a-f]{8})))"
 )
 
 
@@ -61,6 +66,10 @@ class Report:
         """How many answers of each kind a beam has."""
         return Counter(answer.result() for answer in self.of_beam(beam))
 
+    def has_refusal(self) -> bool:
+        """Whether a beam is refused."""
+        return any(answer.refused is not None for answer in self.answers)
+
 
 @dataclass(frozen=True)
 class RefusedSheet:
@@ -69,36 +78,66 @@ class RefusedSheet:
     number: int
     line: int
 
+    def has_refusal(self) -> bool:
+        """It is one."""
+        return True
+
 
 def read_report(name: str, text: str) -> Report | RefusedSheet:
-    """The report that a text says."""
-    first, *rest = text.removesuffix("\n").split("\n")
-    sheet = REFUSED_SHEET.fullmatch(first)
-    pieces = PIECES.fullmatch(first)
-    if sheet and int(sheet[1]) in REASONS and not rest:
-        return RefusedSheet(int(sheet[1]), int(sheet[2]))
-    if not pieces:
+    """The report that a text says, from its first line to its last."""
+    lines = ended_lines(name, text)
+    number, first = next(lines, (1, ""))
+    try:
+        report = read_refused_sheet(first)
+        pieces = 0 if report else read_pieces(first)
+    except BadInput as wrong:
+        raise wrong.at(f"{name}:{number}") from None
+    if report is None:
+        return read_answers(name, pieces, lines)
+    if next(lines, None):
+        raise BadInput("expected the end behind refused=").at(f"{name}:2")
+    return report
+
+
+def read_refused_sheet(line: str) -> RefusedSheet | None:
+    """The refusal of a sheet on a first line that has one."""
+    match = REFUSED_SHEET.fullmatch(line)
+    if not match:
+        return None
+    number, place = map(int, match.groups())
+    if number not in OF_SHEET:
+        raise BadInput(f"expected a refusal of a sheet, found {number}")
+    if (number == WRONG_LINE) != (place > 0):
+        raise BadInput(f"expected a line with refusal {WRONG_LINE} alone, found {quoted(line)}")
+    return RefusedSheet(number, place)
+
+
+def read_pieces(line: str) -> int:
+    """How many pieces a first line says."""
+    match = PIECES.fullmatch(line)
+    if not match:
         raise BadInput(
-            f"expected a report, which begins with pieces= or refused=, found {quoted(first)}"
-        ).at(f"{name}:1")
-    return read_answers(name, int(pieces[1]), rest)
+            f"expected a report, which begins with pieces= or refused=, found {quoted(line)}"
+        )
+    if int(match[1]) > MOST_PIECES:
+        raise BadInput(f"expected at most {MOST_PIECES:,} pieces, found {match[1]}")
+    return int(match[1])
 
 
-def read_answers(name: str, pieces: int, lines: list[str]) -> Report:
+def read_answers(name: str, pieces: int, lines: Iterable[tuple[int, str]]) -> Report:
     """The answers behind the first line, which come in order and are complete."""
-    answers = []
-    for place, line in enumerate(lines):
+    answers: list[Answer] = []
+    for number, line in lines:
         try:
             answer = read_answer(line)
-            check_order(answer, place, pieces)
+            check_order(answer, len(answers), pieces)
         except BadInput as wrong:
-            raise wrong.at(f"{name}:{place + 2}") from None
+            raise wrong.at(f"{name}:{number}") from None
         answers.append(answer)
     if pieces and len(answers) % pieces:
-        raise BadInput(
-            f"the report ends here, expected beam={len(answers) // pieces}"
-            f" piece={len(answers) % pieces}"
-        ).at(f"{name}:{len(lines) + 2}")
+        beam, piece = divmod(len(answers), pieces)
+        wrong = BadInput(f"the report ends here, expected beam={beam} piece={piece}")
+        raise wrong.at(f"{name}:{len(answers) + 2}")
     return Report(pieces, tuple(answers))
 
 
@@ -109,8 +148,8 @@ def read_answer(line: str) -> Answer:
         raise BadInput(f"expected beam=, piece= and what they met, found {quoted(line)}")
     beam, piece, refused, looked, t, u, v = match.groups()
     if refused is not None:
-        if int(refused) not in REASONS:
-            raise BadInput(f"expected a refusal from 1 to {max(REASONS)}, found {refused}")
+        if int(refused) not in OF_BEAM:
+            raise BadInput(f"expected a refusal of a beam, found {refused}")
         return Answer(int(beam), int(piece), refused=int(refused))
     if t is None:
         return Answer(int(beam), int(piece), int(looked))
@@ -124,6 +163,8 @@ def check_order(answer: Answer, place: int, pieces: int) -> None:
     if pieces == 0:
         raise BadInput("expected the end, since there are no pieces")
     beam, piece = divmod(place, pieces)
+    if beam == MOST_BEAMS:
+        raise BadInput(f"expected the end, since there are at most {MOST_BEAMS} beams")
     if (answer.beam, answer.piece) != (beam, piece):
         raise BadInput(
             f"expected beam={beam} piece={piece}, found beam={answer.beam} piece={answer.piece}"

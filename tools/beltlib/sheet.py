@@ -1,11 +1,13 @@
 """The belt sheet: read in decimal or in hexadecimal, written in hexadecimal."""
 
 import re
-from dataclasses import dataclass
-from typing import Callable
+from dataclasses import dataclass, field
+from typing import Iterable, Iterator
 
-from beltlib.errors import BadInput, quoted
-from beltlib.floats import bits_of_decimal, bits_of_hexadecimal
+from beltlib.errors import BadInput, Refused, quoted
+from beltlib.floats import bits_of_hexadecimal
+from beltlib.lines import ended_lines
+from beltlib.notation import ReadFloat, notation_of
 from beltlib.ray import RAY_FLOATS
 from beltlib.refusals import refused
 from beltlib.words import counted, either
@@ -40,13 +42,15 @@ FLOATS = {
     "beam": (RAY_FLOATS, "origin, direction, t_max, time"),
 }
 
+# A point or a beam of a sheet in decimal, as far as it can be told without reading it.
+ROW = re.compile(r"^[^\S\n]*(point|beam)[^\S\n]*=", re.MULTILINE)
+
 Floats = tuple[int, ...]
-ReadFloat = Callable[[str], int]
 
 
 @dataclass(frozen=True)
 class Sheet:
-    """What a sheet says; floats are the bits of an f32."""
+    """What a sheet says, floats as the bits of an f32, and the number of each row's line."""
 
     degree: int
     basis: str
@@ -57,6 +61,7 @@ class Sheet:
     reverse: str
     points: tuple[Floats, ...]
     beams: tuple[Floats, ...]
+    lines: tuple[int, ...] = field(default=(), compare=False)
 
     def text(self) -> str:
         """The sheet as beltbeam reads it."""
@@ -79,8 +84,7 @@ class Line:
     """A line that says something, by its number from 1."""
 
     number: int
-    key: str
-    value: str
+    content: str
 
 
 def hexadecimal(floats: Floats) -> str:
@@ -89,66 +93,77 @@ def hexadecimal(floats: Floats) -> str:
 
 
 def read_decimal(name: str, text: str) -> Sheet:
-    """The sheet that a text in plain decimal numbers says."""
-    sheet = read_lines(name, decimal_lines(name, text), bits_of_decimal)
-    size = len(sheet.text())
-    if size > MOST_BYTES:
-        raise BadInput(f"{refused(18)}; this one would have {size:,}").at(name)
+    """The sheet that a text says as its user writes it: in plain decimal numbers, or finished."""
+    check_size(name, sum(row_bytes(key) for key in ROW.findall(text)))
+    lines = list(decimal_lines(text))
+    sheet = read_lines(name, lines, notation_of(floats_of(lines)))
+    check_size(name, len(sheet.text()))
     return sheet
 
 
 def read_sheet(name: str, text: str) -> Sheet:
     """The sheet that beltbeam reads in a text."""
     if len(text.encode()) > MOST_BYTES:
-        raise BadInput(refused(18)).at(name)
-    return read_lines(name, strict_lines(name, text), bits_of_hexadecimal)
+        raise Refused(refused(18)).at(name)
+    lines = (Line(number, content) for number, content in ended_lines(name, text))
+    return read_lines(name, lines, bits_of_hexadecimal)
 
 
-def decimal_lines(name: str, text: str) -> list[Line]:
+def check_size(name: str, size: int) -> None:
+    """Refuses a sheet that will have too many bytes, of which so many are known."""
+    if size > MOST_BYTES:
+        raise Refused(f"{refused(18)}; finished, this one has at least {size:,}").at(name)
+
+
+def row_bytes(key: str) -> int:
+    """How long a line of floats is in a finished sheet."""
+    return len(f"{key}=") + FLOATS[key][0] * len("00000000,")
+
+
+def decimal_lines(text: str) -> Iterator[Line]:
     """The lines without comments, blanks and empty lines."""
-    lines = []
     for number, raw in enumerate(text.removeprefix("\ufeff").split("\n"), start=1):
         content = raw.partition("#")[0].strip()
         if content:
-            key, value = key_and_value(name, number, content)
-            lines.append(Line(number, key.rstrip(), value.lstrip()))
-    return lines
+            yield Line(number, "=".join(part.strip() for part in content.split("=", 1)))
 
 
-def strict_lines(name: str, text: str) -> list[Line]:
-    """The lines as they are, each ended by LF."""
-    *ended, rest = text.split("\n")
-    if rest:
-        raise BadInput("the last line is not ended by a line feed").at(f"{name}:{len(ended) + 1}")
-    return [
-        Line(number, *key_and_value(name, number, raw)) for number, raw in enumerate(ended, start=1)
-    ]
+def floats_of(lines: list[Line]) -> Iterator[tuple[int, str]]:
+    """What stands where floats are due, with the number of its line."""
+    for line in lines:
+        key, _, value = line.content.partition("=")
+        if key in FLOATS:
+            yield from ((line.number, part.strip()) for part in value.split(","))
 
 
-def key_and_value(name: str, number: int, line: str) -> tuple[str, str]:
+def key_and_value(line: str) -> tuple[str, str]:
     """What stands before and behind the first equals sign."""
     key, equals, value = line.partition("=")
     if not equals:
-        raise BadInput(f"expected key=value, found {quoted(line)}").at(f"{name}:{number}")
+        raise BadInput(f"expected key=value, found {quoted(line)}")
     return key, value
 
 
-def read_lines(name: str, lines: list[Line], read_float: ReadFloat) -> Sheet:
+def read_lines(name: str, lines: Iterable[Line], read_float: ReadFloat) -> Sheet:
     """The sheet that lines of either form say."""
     found: dict[str, list] = {key: [] for key in KEYS}
+    numbers: list[int] = []
     previous = ""
     for line in lines:
         try:
-            check_place(line.key, previous, found)
-            found[line.key].append(read_value(line.key, line.value, read_float))
+            key, value = key_and_value(line.content)
+            check_place(key, previous, found)
+            found[key].append(read_value(key, value, read_float))
         except BadInput as wrong:
             raise wrong.at(f"{name}:{line.number}") from None
-        previous = line.key
+        numbers.append(line.number)
+        previous = key
     if "beam" not in NEXT[previous]:
-        end = lines[-1].number + 1 if lines else 1
+        end = numbers[-1] + 1 if numbers else 1
         raise BadInput(f"the sheet ends here, expected {NEXT[previous][0]}=").at(f"{name}:{end}")
     head = (found[key][0] for key in KEYS if key not in ("point", "beam"))
-    return Sheet(*head, points=tuple(found["point"]), beams=tuple(found["beam"]))
+    rows = (tuple(found[key]) for key in ("point", "beam"))
+    return Sheet(*head, *rows, lines=tuple(numbers))
 
 
 def check_place(key: str, previous: str, found: dict[str, list]) -> None:

@@ -1,49 +1,44 @@
 """A report as a table in decimal."""
 
 from itertools import groupby
-from typing import Callable, Iterable
+from typing import Iterable
 
 from beltlib.floats import shortest_decimal
-from beltlib.hits import Place, decimals
+from beltlib.places import PLACE_HEAD, Cells, FindPlace
 from beltlib.refusals import refused
 from beltlib.report import Answer, RefusedSheet, Report
 from beltlib.sheet import expected_on
 from beltlib.words import counted
 
 HEAD = ("beam", "piece", "looked", "result", "t", "u", "v")
-PLACE_HEAD = ("metre", "across", "x", "y", "z")
 RESULT = HEAD.index("result")
-
-Cells = tuple[str, ...]
-FindPlace = Callable[[Answer], Place]
 
 
 def refused_sheet_text(report: RefusedSheet) -> str:
-    """A refused sheet in a sentence."""
-    where = f" Line {report.line}: expected {expected_on(report.line)}." if report.line else ""
-    return f"The sheet is {refused(report.number)}.{where}\n"
+    """A refused sheet in a sentence, with what belongs on the line that is wrong."""
+    text = f"The sheet is {refused(report.number)}."
+    if report.line:
+        text += f" Line {report.line}: expected {expected_on(report.line)}."
+        text += " Each line, the last too, is ended by a line feed (LF) alone."
+    return text + "\n"
 
 
-def report_text(
-    report: Report, every: bool, find_place: FindPlace | None = None, size: float = 0.0
-) -> str:
-    """The table and a line for each beam; places are told as exactly as suits a belt of a size."""
-    rows = list(rows_of(report, every, find_place, decimals(size / 10_000)))
+def report_text(report: Report, every: bool, find_place: FindPlace | None = None) -> str:
+    """The table and a line for each beam."""
+    rows = list(rows_of(report, every, find_place))
     head = HEAD + (PLACE_HEAD if find_place else ())
     table = [*aligned(head, rows), ""] if rows else []
     count = f"{counted(report.beams(), 'beam')} on {counted(report.pieces, 'piece')}"
     return "".join(line + "\n" for line in [*table, *summaries(report), count])
 
 
-def rows_of(
-    report: Report, every: bool, find_place: FindPlace | None, places: int
-) -> Iterable[Cells]:
+def rows_of(report: Report, every: bool, find_place: FindPlace | None) -> Iterable[Cells]:
     """The cells of the hits and refusals, or of every answer."""
     for (_, number), group in groupby(report.answers, lambda answer: (answer.beam, answer.refused)):
         answers = list(group)
         if number is None:
             told = (answer for answer in answers if answer.hit or every)
-            yield from (answer_cells(answer, find_place, places) for answer in told)
+            yield from (answer_cells(answer, find_place) for answer in told)
         elif every:
             yield from (refused_cells([answer]) for answer in answers)
         else:
@@ -57,22 +52,13 @@ def refused_cells(answers: list[Answer]) -> Cells:
     return str(first.beam), pieces, "", refused(first.refused)
 
 
-def answer_cells(answer: Answer, find_place: FindPlace | None, places: int) -> Cells:
+def answer_cells(answer: Answer, find_place: FindPlace | None) -> Cells:
     """A miss, or a hit and where it lies if that can be found."""
     start = (str(answer.beam), str(answer.piece), str(answer.looked), answer.result())
     if answer.hit is None:
         return start
     found = tuple(map(shortest_decimal, (answer.hit.t, answer.hit.u, answer.hit.v)))
-    if find_place is None:
-        return start + found
-    place = find_place(answer)
-    numbers = (place.metre, place.across, *place.point)
-    return start + found + tuple(fixed(number, places) for number in numbers)
-
-
-def fixed(number: float, places: int) -> str:
-    """A number with so many decimals, without a minus where it rounds to zero."""
-    return f"{round(number, places) + 0.0:.{places}f}"
+    return start + found + (find_place(answer) if find_place else ())
 
 
 def aligned(head: Cells, rows: list[Cells]) -> list[str]:

@@ -29,7 +29,9 @@ def text_of(path: Path) -> str:
     return path.read_bytes().decode()
 
 
-def run(*arguments: object, stdin: str = "", tool: str = "belt") -> subprocess.CompletedProcess:
+def run(
+    *arguments: object, stdin: str = "", tool: str | Path = "belt", env: dict | None = None
+) -> subprocess.CompletedProcess:
     """Runs a tool as a user does, from the folder of the repository."""
     return subprocess.run(
         [sys.executable, "-B", TOOLS / tool, *arguments],
@@ -37,4 +39,5 @@ def run(*arguments: object, stdin: str = "", tool: str = "belt") -> subprocess.C
         capture_output=True,
         text=True,
         cwd=TOOLS.parent,
+        env=env,
     )

@@ -4,8 +4,7 @@ import math
 import unittest
 
 from support import EXAMPLES, HEAD, STRAIGHT_POINTS, text_of
-from beltlib.curve import Belt, Segment, lay, refusal_of
-from beltlib.errors import BadInput
+from beltlib.curve import Belt, Segment, lay
 from beltlib.sheet import read_decimal, read_sheet
 
 
@@ -59,28 +58,6 @@ class Laying(unittest.TestCase):
         belt = belt_of(text)
         self.assertEqual(belt.pieces, 8)
         self.assertEqual([belt.segment_of(piece) for piece in range(8)], [0] * 4 + [1] * 4)
-
-    def test_refusals_in_their_order(self) -> None:
-        def number(text: str) -> int:
-            return refusal_of(read_decimal("in", text))
-
-        split = "splitdepth=0"
-        self.assertEqual(number(HEAD + STRAIGHT_POINTS), 0)
-        self.assertEqual(number(HEAD + points((0, 0, 0))), 0)
-        self.assertEqual(number(HEAD.replace("degree=3", "degree=4") + points((0, 0, 0))), 1)
-        self.assertEqual(number(HEAD + points(*[(0, 0, 0)] * 5)), 3)
-        self.assertEqual(number(HEAD.replace("bezier", "bspline") + points(*[(0, 0, 0)] * 3)), 3)
-        self.assertEqual(number(HEAD.replace("flat", "ribbon") + STRAIGHT_POINTS), 4)
-        self.assertEqual(number(HEAD.replace(split, "splitdepth=11") + STRAIGHT_POINTS), 5)
-        self.assertEqual(number(HEAD.replace(split, "splitdepth=10") + STRAIGHT_POINTS), 0)
-        two = points(*[(0, 0, 0)] * 7)
-        self.assertEqual(number(HEAD.replace(split, "splitdepth=10") + two), 6)
-        self.assertEqual(number(HEAD + points(*[(0, 0, 0)] * 259)), 6)
-        self.assertEqual(number(HEAD + STRAIGHT_POINTS.replace("-3", "-1048576.1")), 7)
-        self.assertEqual(number(HEAD + STRAIGHT_POINTS.replace("-3", "inf")), 7)
-        self.assertEqual(number(HEAD.replace("width1=1", "width1=1025") + STRAIGHT_POINTS), 7)
-        with self.assertRaisesRegex(BadInput, "^in: refused 5: the split depth is over 10$"):
-            belt_of(HEAD.replace(split, "splitdepth=11") + STRAIGHT_POINTS)
 
 
 class Metres(unittest.TestCase):

@@ -3,7 +3,7 @@
 import unittest
 
 from support import EXAMPLES, HEAD, STRAIGHT_POINTS, UP, text_of
-from beltlib.errors import BadInput
+from beltlib.errors import BadInput, Refused
 from beltlib.sheet import read_decimal, read_sheet
 
 BELT = HEAD + STRAIGHT_POINTS
@@ -52,14 +52,39 @@ class Make(unittest.TestCase):
         self.assertNotIn("beam", self.make(BELT))
         self.assertEqual(self.make(BELT + 64 * UP).count("beam="), 64)
 
-    def test_what_the_library_refuses_is_made_all_the_same(self) -> None:
-        text = HEAD.replace("degree=3", "degree=07").replace("flat", "ribbon") + "point=inf,0,1e9\n"
-        self.assertIn("degree=7\n", self.make(text))
+    def test_digits_are_written_without_leading_zeros(self) -> None:
+        self.assertIn("degree=3\n", self.make(BELT.replace("degree=3", "degree=03")))
 
     def test_a_sheet_that_is_too_long(self) -> None:
-        count = (65536 - len(read_decimal("in", HEAD + "point=0,0,0").text())) // 33 + 1
+        count = (65536 - len(self.make(HEAD + "point=0,0,0"))) // 33 + 1
         self.assertLessEqual(len(self.make(HEAD + count * "point=0,0,0\n")), 65536)
-        self.refuse(HEAD + (count + 1) * "point=0,0,0\n", "in: refused 18: .* would have 65,5")
+        for more in (1, 2, 400):
+            text = HEAD + (count + more) * " point = 0,0,0\n"
+            with self.assertRaisesRegex(Refused, "^in: refused 18: .* has at least 6|7[0-9,]+$"):
+                read_decimal("in", text)
+
+    def test_too_long_comes_before_a_wrong_line(self) -> None:
+        self.refuse("colour=red\n" + 900 * UP, "in: refused 18: ")
+
+    def test_comments_do_not_count(self) -> None:
+        self.assertEqual(self.make(BELT + UP + 5000 * "# point=0,0,0\n"), STRAIGHT)
+
+    def test_a_finished_sheet_stays_as_it_is(self) -> None:
+        for path in sorted(EXAMPLES.glob("*.sheet")):
+            self.assertEqual(self.make(text_of(path)), text_of(path), path)
+        self.assertEqual(self.make("# words\r\n" + STRAIGHT.replace(",", " , ")), STRAIGHT)
+
+    def test_a_finished_sheet_whose_digits_are_all_decimal(self) -> None:
+        digits = "40000000"
+        head = HEAD.replace("th0=1", f"th0={digits}").replace("th1=1", f"th1={digits}")
+        text = head + 4 * f"point={digits},{digits},{digits}\n"
+        self.assertEqual(self.make(text), text)
+        self.assertIn("width1=4c189680\n", self.make(text.replace(digits, "2.0", 1)))
+
+    def test_decimals_and_hexadecimal_are_not_mixed(self) -> None:
+        message = "in:5: width1=: expected a decimal .* found '3f800000'; hexadecimal .* line 4 has"
+        self.refuse(STRAIGHT.replace("3f800000", "1", 1), f"{message} '1'$")
+        self.refuse(STRAIGHT.replace("3f800000", "3F800000", 1), "in:4: width0=: expected a deci")
 
     def refuse(self, text: str, message: str) -> None:
         with self.assertRaisesRegex(BadInput, "^" + message):
@@ -112,13 +137,16 @@ class Strict(unittest.TestCase):
             read_sheet("in", text)
 
     def test_the_belt_sheet_is_read_to_the_letter(self) -> None:
-        self.refuse(STRAIGHT.removesuffix("\n"), "in:12: the last line is not ended")
-        self.refuse(STRAIGHT.replace("\n", "\r\n"), "in:1: degree=: expected one or two")
+        self.refuse(STRAIGHT.removesuffix("\n"), "in:12: the last line is not ended by a line feed")
+        ends = "the line ends in CR LF, expected a line feed"
+        self.refuse(STRAIGHT.replace("\n", "\r\n"), f"in:1: {ends}")
+        self.refuse(STRAIGHT.replace("t\n", "t\r\n"), f"in:3: {ends}")
         self.refuse(STRAIGHT.replace("type", "\ntype"), "in:3: expected key=value, found ''")
         self.refuse(STRAIGHT.replace("=c0", "=C0"), "in:8: point=: expected eight lower-case")
         self.refuse(STRAIGHT.replace("=c0", "= c0"), "in:8: point=: expected eight lower-case")
         self.refuse("# words\n" + STRAIGHT, "in:1: expected key=value")
         self.refuse("\ufeff" + STRAIGHT, "in:1: unknown key")
+        self.refuse(STRAIGHT.replace("flat", "round").removesuffix("\n"), "in:3: type=: expected")
         self.refuse(STRAIGHT + "x" * 65536, "in: refused 18: the sheet has over 65,536 bytes")
 
 

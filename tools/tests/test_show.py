@@ -1,6 +1,8 @@
 """Reports as tables."""
 
+import tempfile
 import unittest
+from pathlib import Path
 
 from support import DATA, EXAMPLES, text_of
 from beltlib.commands import show
@@ -30,8 +32,8 @@ beam 0: 1 hit, 0 misses
 """)
 
     def test_with_the_sheet(self) -> None:
-        shown = show(str(DATA / "spiral.report"), str(EXAMPLES / "spiral.sheet"), every=False)
-        self.assertEqual(shown, text_of(DATA / "spiral.table"))
+        shown = show(str(DATA / "spiral.report"), str(EXAMPLES / "spiral.sheet"), "table")
+        self.assertEqual(shown, (text_of(DATA / "spiral.table"), 0))
 
     def test_misses_only_when_all_are_asked_for(self) -> None:
         report = text_of(DATA / "spiral.report")
@@ -78,7 +80,8 @@ class RefusedSheets(unittest.TestCase):
         self.assertEqual(
             self.sentence("refused=17 line=3\n"),
             "The sheet is refused 17: a line of the sheet is wrong."
-            " Line 3: expected type= and flat, ribbon or cylinder.\n",
+            " Line 3: expected type= and flat, ribbon or cylinder."
+            " Each line, the last too, is ended by a line feed (LF) alone.\n",
         )
 
     def test_what_each_line_should_hold(self) -> None:
@@ -102,20 +105,55 @@ class BadReports(unittest.TestCase):
     def test_not_a_report(self) -> None:
         self.refuse("", "in:1: expected a report, .* found ''")
         self.refuse("degree=3\n", "in:1: expected a report")
-        self.refuse("refused=19 line=0\n", "in:1: expected a report")
         self.refuse("pieces=1\nhello\n", "in:2: expected beam=, piece= and what they met")
+        self.refuse("pieces=01\n", "in:1: expected a report")
+        self.refuse("pieces=1025\n", "in:1: expected at most 1,024 pieces, found 1025")
         self.refuse("pieces=1\n" + HIT.replace("t=4", "t=G"), "in:2: expected beam=")
-        self.refuse("pieces=1\nbeam=0 piece=0 refused=99\n", "in:2: expected a refusal from 1")
         self.refuse("pieces=1\n" + HIT.replace("u=3f0", "u=400"), "in:2: expected u from 0 to 1")
+
+    def test_refusals_that_beltbeam_does_not_print(self) -> None:
+        self.refuse("refused=19 line=0\n", "in:1: expected a refusal of a sheet, found 19")
+        self.refuse("refused=15 line=0\n", "in:1: expected a refusal of a sheet, found 15")
+        self.refuse("refused=5 line=3\n", "in:1: expected a line with refusal 17 alone")
+        self.refuse("refused=17 line=0\n", "in:1: expected a line with refusal 17 alone")
+        self.refuse("pieces=1\nbeam=0 piece=0 refused=99\n", "in:2: expected a refusal of a beam")
+        self.refuse("pieces=1\nbeam=0 piece=0 refused=17\n", "in:2: expected a refusal of a beam")
 
     def test_not_whole_or_not_in_order(self) -> None:
         self.refuse("pieces=2\n" + HIT, "in:3: the report ends here, expected beam=0 piece=1")
         self.refuse("pieces=1\n" + HIT + HIT, "in:3: expected beam=1 piece=0, found beam=0 piece=0")
         self.refuse("pieces=0\n" + HIT, "in:2: expected the end")
+        self.refuse("refused=5 line=0\npieces=1\n", "in:2: expected the end behind refused=")
+        beams = "".join(f"beam={beam} piece=0 looked=0 hit=0\n" for beam in range(65))
+        self.refuse("pieces=1\n" + beams, "in:66: expected the end, since there are at most 64")
+
+    def test_every_cut_within_a_beam_is_seen(self) -> None:
+        report = text_of(DATA / "spiral.report")
+        lines = report.splitlines(keepends=True)
+        ends = [len("".join(lines[:count])) for count in range(1, len(lines), 8)]
+        for end in range(len(report)):
+            if end not in ends:
+                with self.assertRaises(BadInput):
+                    read_report("in", report[:end])
+
+    def test_every_missing_line_is_seen_beside_the_sheet(self) -> None:
+        lines = text_of(DATA / "spiral.report").splitlines(keepends=True)
+        with tempfile.TemporaryDirectory() as folder:
+            cut = Path(folder) / "cut.report"
+            for missing in range(len(lines)):
+                cut.write_text("".join(lines[:missing]))
+                with self.assertRaises(BadInput):
+                    show(str(cut), str(EXAMPLES / "spiral.sheet"), "table")
+
+    def test_line_ends(self) -> None:
+        report = "pieces=1\n" + HIT
+        self.refuse(report.removesuffix("\n"), "in:2: the last line is not ended by a line feed")
+        self.refuse(report.replace("\n", "\r\n"), "in:1: the line ends in CR LF, expected a line")
+        self.refuse("pieces=1", "in:1: the last line is not ended by a line feed")
 
     def test_a_report_of_another_sheet(self) -> None:
         with self.assertRaisesRegex(BadInput, "8 pieces, but .*hall.sheet has 36"):
-            show(str(DATA / "spiral.report"), str(EXAMPLES / "hall.sheet"), every=False)
+            show(str(DATA / "spiral.report"), str(EXAMPLES / "hall.sheet"), "table")
 
 
 if __name__ == "__main__":
