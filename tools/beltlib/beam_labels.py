@@ -6,7 +6,7 @@ from typing import Callable, Iterable, TypeVar
 from beltlib.beams import Trace, whence
 from beltlib.labels import Label, wrapped
 from beltlib.layout import Layout
-from beltlib.marks import Mark, told_of
+from beltlib.marks import MOST_TOLD, Mark, told_of
 from beltlib.numbering import beams_text, ranges
 from beltlib.signs import RING
 from beltlib.svg import Flat
@@ -75,9 +75,9 @@ def clusters(layout: Layout, trace: Trace) -> list[list[Mark]]:
 
 
 def number_labels(layout: Layout) -> list[Label]:
-    """The numbers of the beams where they start and where they hit."""
+    """The numbers of the beams where they start, and at the first hits of each."""
     places = [(trace.start, trace.beam) for trace in layout.traces]
-    places += dict.fromkeys((mark.at, mark.beam) for mark in layout.marks)
+    places += [(mark.at, mark.beam) for mark in layout.marks if mark.order <= MOST_TOLD]
     labels = []
     for near in near_to_each_other(places, lambda place: place[0], NEAR_NUMBERS):
         beams = sorted({beam for _, beam in near})

@@ -19,8 +19,8 @@ from beltlib.sheet import Sheet
 from beltlib.signs import HIT, RING, STYLE, arrow_head
 from beltlib.svg import Flat, circle, element, group, line, number, path, polygons, text
 
-# More beams than this are told in a list, and only their numbers stand in the plan.
-MOST_TOLD_IN_PLAN = 20
+# Where there are more beams or labels, a list tells the hits, and the plan has only numbers.
+MOST_BEAMS, MOST_LABELS = 20, 100
 
 
 def draw(
@@ -101,16 +101,26 @@ def way(layout: Layout) -> list[str]:
 
 def labels_layer(layout: Layout) -> tuple[list[str], int, bool]:
     """All labels, how many found no room, and whether a list must tell what they leave unsaid."""
-    if len(layout.traces) <= MOST_TOLD_IN_PLAN:
-        parts, left_out = placed(layout, full_labels(layout) + end_labels(layout))
-        if not left_out:
-            return parts, 0, False
+    parts = told_in_plan(layout)
+    if parts is not None:
+        return parts, 0, False
     return *placed(layout, end_labels(layout) + number_labels(layout)), True
+
+
+def told_in_plan(layout: Layout) -> list[str] | None:
+    """The labels that tell everything, or None where they are too many or find no room."""
+    if len(layout.traces) > MOST_BEAMS:
+        return None
+    wanted = full_labels(layout) + end_labels(layout)
+    parts, left_out = placed(layout, wanted) if len(wanted) <= MOST_LABELS else ([], len(wanted))
+    return None if left_out else parts
 
 
 def placed(layout: Layout, wanted: list[Label]) -> tuple[list[str], int]:
     """Labels, the first of which get the best places, and how many found no room."""
-    marks = [square(mark.at, HIT) for mark in layout.marks]
+    # Marks in one pixel take the same room.
+    pixels = {(round(mark.at[0]), round(mark.at[1])) for mark in layout.marks}
+    marks = [square(pixel, HIT + 0.5) for pixel in sorted(pixels)]
     marks += [square(trace.start, RING) for trace in layout.traces]
     labels = Labels(layout.page.frame, marks, layout.line_points(), layout.beam_points())
     return [part for label in wanted for part in labels.place(label)], labels.left_out

@@ -2,6 +2,7 @@
 
 import math
 from dataclasses import dataclass
+from typing import Iterator
 
 from beltlib.plan import Box
 from beltlib.svg import Flat, line, text
@@ -20,7 +21,7 @@ ON_LINE, ON_BEAM, LEADER_ON_BEAM = 6.0, 24.0, 10.0
 CROSSING, DOUBTFUL = 60.0, 15.0
 
 # Widths in lines' heights, as in the widest of the usual fonts.
-NARROW, WIDE = " .,:;-ijlft()", "mwMW"
+NARROW, WIDE = " \u00a0.,:;-ijlft()", "mwMW"
 
 
 @dataclass(frozen=True)
@@ -44,9 +45,9 @@ def letter_width(letter: str) -> float:
 
 
 def wrapped(words: str, width: float) -> list[str]:
-    """Words in lines that are no wider than this, where a word is not."""
+    """Words in lines that are no wider than this, where a word is not; some blanks do not part."""
     lines: list[str] = []
-    for word in words.split():
+    for word in words.split(" "):
         if lines and text_width(f"{lines[-1]} {word}") <= width:
             lines[-1] += f" {word}"
         else:
@@ -67,10 +68,14 @@ class Room:
         for tile in cells(box, TILE):
             self.tiles.setdefault(tile, []).append(box)
 
-    def found(self, box: Box) -> set[Box]:
-        """The boxes taken that a box overlaps."""
+    def met(self, box: Box) -> Iterator[Box]:
+        """The boxes taken that a box overlaps, some of them twice."""
         near = (self.tiles.get(tile, ()) for tile in cells(box, TILE))
-        return {other for boxes in near for other in boxes if box.meets(other)}
+        return (other for boxes in near for other in boxes if box.meets(other))
+
+    def is_free(self, box: Box) -> bool:
+        """Whether a box overlaps none that is taken."""
+        return next(self.met(box), None) is None
 
 
 class Labels:
@@ -109,7 +114,7 @@ class Labels:
         return [line(label.anchor, end, "leader"), *words]
 
     def best_spot(self, label: Label) -> tuple[float, Box] | None:
-        """The distance and the box of a label where it costs least, and the nearer of equal ones."""
+        """The distance and the box of a label where it costs least, the nearer of two alike."""
         best, spot = math.inf, None
         for distance in DISTANCES:
             if best <= distance:
@@ -122,7 +127,7 @@ class Labels:
     def is_free(self, box: Box) -> bool:
         """Whether a box lies in the frame, off marks and words."""
         inside = self.frame.holds(box.low) and self.frame.holds(box.high)
-        return inside and not self.marks.found(box) and not self.words.found(box)
+        return inside and self.marks.is_free(box) and self.words.is_free(box)
 
     def cost(self, label: Label, distance: float, box: Box) -> float:
         """How far a label would be, and what it and its leader would cover."""
@@ -132,8 +137,8 @@ class Labels:
         leader = between(label.anchor, nearest(box, label.anchor))
         along = sum(cell_of(point) in self.beams for point in leader)
         covered = ON_LINE * lines + ON_BEAM * beams + LEADER_ON_BEAM * along
-        own = self.marks.found(square(label.anchor, 1.0))
-        near = len(self.marks.found(box.grown(distance)) - own)
+        own = set(self.marks.met(square(label.anchor, 1.0)))
+        near = len(set(self.marks.met(box.grown(distance))) - own)
         # Leaders from one place begin alike.
         crossed = any(self.is_crossed(point, own) for point in leader[2:])
         return distance + covered + CROSSING * crossed + DOUBTFUL * near
@@ -141,8 +146,8 @@ class Labels:
     def is_crossed(self, point: Flat, own: set[Box]) -> bool:
         """Whether a point of a leader lies on another label or mark than its own."""
         dot = square(point, 1.0)
-        taken = self.words.found(dot) | self.marks.found(dot) - own
-        return bool(taken) or cell_of(point) in self.leaders
+        covered = not self.words.is_free(dot) or any(box not in own for box in self.marks.met(dot))
+        return covered or cell_of(point) in self.leaders
 
 
 def boxes_around(label: Label, distance: float) -> list[Box]:

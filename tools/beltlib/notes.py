@@ -48,4 +48,6 @@ def beam_notes(layout: Layout) -> list[str]:
             alike.setdefault(f"Refused {number}", []).append(trace.beam)
     notes = [f"{words}: {beams_text(beams)}." for words, beams in alike.items()]
     away = [f"{t.beam}: {away_text(t.away)}" for t in layout.traces if t.away is not None]
-    return notes + ([f"{ORIGINS} {', '.join(away)}."] if away else [])
+    # A number stays with its beam and its unit.
+    origins = ", ".join(words.replace(" ", "\u00a0") for words in away)
+    return notes + ([f"{ORIGINS} {origins}."] if away else [])

@@ -59,7 +59,7 @@ class Picture:
 
     def notes(self) -> str:
         """What stands under the plan, on one line."""
-        return " ".join(self.words("key"))
+        return " ".join(self.words("key")).replace("\u00a0", " ")
 
     def frame(self) -> Box:
         """The frame around the plan."""
@@ -394,8 +394,8 @@ class Page(unittest.TestCase):
             ray, = shown.of_class("ray")
             start = (float(ray.get("x1")), float(ray.get("y1")))
             frame = shown.frame()
-            self.assertLess(min(abs(x - edge) for x, edge in zip(start * 2, frame.low + frame.high)),
-                            0.02)
+            gaps = [abs(x - edge) for x, edge in zip(start * 2, frame.low + frame.high)]
+            self.assertLess(min(gaps), 0.02)
             arrow, = shown.of_class("whence")
             tip = tuple(map(float, arrow.get("d").split("L")[1].split()))
             self.assertTrue(frame.holds(tip))
@@ -513,11 +513,8 @@ class Degenerate(unittest.TestCase):
 
 class Words(unittest.TestCase):
     def test_ordinals(self) -> None:
-        shown = [ordinal(number) for number in (1, 2, 3, 4, 11, 12, 13, 21, 102, 111, 1023)]
-        self.assertEqual(
-            shown,
-            ["1st", "2nd", "3rd", "4th", "11th", "12th", "13th", "21st", "102nd", "111th", "1023rd"],
-        )
+        shown = " ".join(ordinal(number) for number in (1, 2, 3, 4, 11, 12, 13, 21, 102, 111, 1023))
+        self.assertEqual(shown, "1st 2nd 3rd 4th 11th 12th 13th 21st 102nd 111th 1023rd")
 
     def test_ranges(self) -> None:
         self.assertEqual(ranges([0, 1, 2, 5, 7, 8]), "0 to 2, 5, 7, 8")
@@ -529,6 +526,7 @@ class Words(unittest.TestCase):
         self.assertEqual(" ".join(lines), words)
         self.assertTrue(all(text_width(line) <= 100 for line in lines))
         self.assertEqual(wrapped("unbreakable", 10.0), ["unbreakable"])
+        self.assertEqual(wrapped("a 12\u00a0m", 30.0), ["a", "12\u00a0m"])
 
 
 class Geometry(unittest.TestCase):
