@@ -3,6 +3,7 @@
 import math
 import re
 import unittest
+from collections import Counter
 from functools import cache
 from itertools import combinations
 from pathlib import Path
@@ -332,6 +333,12 @@ class Page(unittest.TestCase):
                     labels = [words for words in shown.words("label") if "z" not in words]
                     numbers = " ".join(words for words in labels if "wide" not in words)
                     self.assertEqual(beams_in(numbers), set(range(count)))
+
+    def test_each_of_many_beams_has_its_number_at_its_start_and_at_its_hit(self) -> None:
+        shown = decimal_picture(*row_of_beams(40), "xz")
+        labels = [words for words in shown.words("label") if re.fullmatch("[0-9to, ]+", words)]
+        named = Counter(beam for words in labels for beam in beams_in(words))
+        self.assertEqual(named, Counter({beam: 2 for beam in range(40)}))
 
     def test_up_to_twenty_beams_are_told_in_the_plan(self) -> None:
         beams = "".join(f"beam={i % 7 - 3},{i // 7},0,0,0,1,inf,0\n" for i in range(21))
