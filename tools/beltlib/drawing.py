@@ -2,48 +2,56 @@
 
 from xml.sax.saxutils import escape
 
-from beltlib.beams import draw_mark, draw_trace, hit_labels, metres, start_label
+from beltlib.beam_labels import full_labels, number_labels
+from beltlib.beams import draw_trace
 from beltlib.curve import Belt
-from beltlib.hits import decimals
+from beltlib.heading import description, end_texts, heading_of, summary
 from beltlib.labels import Label, Labels, square
 from beltlib.layout import Layout
 from beltlib.legend import draw_legend
+from beltlib.listing import draw_list
+from beltlib.marks import draw_marks
+from beltlib.notes import draw_notes, notes_of
 from beltlib.page import AXIS, RIGHT, TOP, axes
 from beltlib.plan import Plane, band
 from beltlib.report import Report
 from beltlib.sheet import Sheet
 from beltlib.signs import HIT, RING, STYLE, arrow_head
 from beltlib.svg import Flat, circle, element, group, line, number, path, polygons, text
-from beltlib.words import counted
 
-VIEWS = {"xy": "seen from above", "xz": "seen from the front", "yz": "seen from the side"}
-NOTE = 16.0
+# Where there are more beams or labels, a list tells the hits, and the plan has only numbers.
+MOST_BEAMS, MOST_LABELS = 20, 100
 
 
-def draw(sheet: Sheet, belt: Belt, report: Report | None, plane_name: str) -> str:
-    """The plan as the text of an SVG file."""
+def draw(
+    sheet: Sheet, belt: Belt, report: Report | None, plane_name: str, name: str = ""
+) -> str:
+    """The plan as the text of an SVG file, with the name of the sheet's file where it is given."""
     layout = Layout(sheet, belt, report, Plane(plane_name))
     page = layout.page
-    heading = f"Belt {VIEWS[plane_name]}: {summary(layout)}"
-    labels, left_out = labels_layer(layout)
+    heading = heading_of(name, plane_name, page.width)
+    labels, left_out, listed = labels_layer(layout)
     left, foot = page.frame.low[0], page.frame.high[1] + AXIS
-    legend, height = draw_legend(layout, (left, foot), page.width)
-    notes = notes_of(layout, left_out)
-    size = (left + page.width + RIGHT, foot + height + NOTE * len(notes) + 12)
+    legend, height = draw_legend(layout, listed, (left, foot), page.width)
+    foot += height
+    notes, height = draw_notes(notes_of(layout, left_out, listed), (left, foot), page.width)
+    foot += height
+    below, height = draw_list(layout, (left, foot), page.width) if listed else ([], 0.0)
+    size = (left + page.width + RIGHT, foot + height + 12)
     return svg(size, [
-        element("title", escape(heading), id="title"),
+        element("title", escape(f"{heading}: {summary(layout)}"), id="title"),
         element("desc", escape(description(layout)), id="desc"),
         element("style", STYLE),
         element("rect", width=size[0], height=size[1], class_="page"),
-        text((left, TOP - 16), heading, "heading", "start"),
+        text((left, TOP - 34), heading, "heading", "start"),
+        text((left, TOP - 14), summary(layout), "summary", "start"),
         axes(page, layout.plane.names),
         belt_layer(layout),
         group("beams", [draw_trace(trace) for trace in layout.traces]),
-        group("hits", [draw_mark(mark) for mark in layout.marks]),
+        group("hits", draw_marks(layout.marks)),
         group("labels", labels),
         group("legend", legend),
-        *(text((left, foot + height + NOTE * i), note, "key", "start")
-          for i, note in enumerate(notes, start=1)),
+        group("notes", notes + below),
     ])
 
 
@@ -61,32 +69,6 @@ def svg(size: Flat, parts: list[str]) -> str:
         aria_labelledby="title desc",
     )
     return whole + "\n"
-
-
-def summary(layout: Layout) -> str:
-    """The plan in numbers."""
-    beams = counted(len(layout.traces) + len(layout.outside), "beam")
-    hits = f", {counted(len(layout.marks), 'hit')}" if layout.report else ""
-    pieces = counted(layout.belt.pieces, "piece")
-    return f"{pieces}, {metre_text(layout.belt, layout.belt.length)}, {beams}{hits}"
-
-
-def metre_text(belt: Belt, metre: float) -> str:
-    """A length along the belt, as exactly as the plan tells it."""
-    return f"{metre:.{decimals(belt.length / 1000)}f} m"
-
-
-def description(layout: Layout) -> str:
-    """What the plan shows of each beam, in words."""
-    sentences = ["The belt is drawn with its width, to scale."]
-    for trace in layout.traces:
-        if own := layout.marks_of(trace):
-            sentences.append(f"Beam {trace.beam} hits at {metres(own, layout.belt.length)}.")
-        if trace.kind == "miss":
-            sentences.append(f"Beam {trace.beam} misses.")
-        if trace.kind == "refused":
-            sentences.append(f"Beam {trace.beam} is refused.")
-    return " ".join(sentences)
 
 
 def belt_layer(layout: Layout) -> str:
@@ -117,31 +99,37 @@ def way(layout: Layout) -> list[str]:
     ]
 
 
-def labels_layer(layout: Layout) -> tuple[list[str], int]:
-    """All labels, and how many found no room."""
-    page, belt = layout.page, layout.belt
-    marks = [square(mark.at, HIT) for mark in layout.marks]
+def labels_layer(layout: Layout) -> tuple[list[str], int, bool]:
+    """All labels, how many found no room, and whether a list must tell what they leave unsaid."""
+    parts = told_in_plan(layout)
+    if parts is not None:
+        return parts, 0, False
+    return *placed(layout, end_labels(layout) + number_labels(layout)), True
+
+
+def told_in_plan(layout: Layout) -> list[str] | None:
+    """The labels that tell everything, or None where they are too many or find no room."""
+    if len(layout.traces) > MOST_BEAMS:
+        return None
+    wanted = full_labels(layout) + end_labels(layout)
+    parts, left_out = placed(layout, wanted) if len(wanted) <= MOST_LABELS else ([], len(wanted))
+    return None if left_out else parts
+
+
+def placed(layout: Layout, wanted: list[Label]) -> tuple[list[str], int]:
+    """Labels, the first of which get the best places, and how many found no room."""
+    # Marks in one pixel take the same room.
+    pixels = {(round(mark.at[0]), round(mark.at[1])) for mark in layout.marks}
+    marks = [square(pixel, HIT + 0.5) for pixel in sorted(pixels)]
     marks += [square(trace.start, RING) for trace in layout.traces]
-    # Where room is scarce, hits come first.
-    wanted = []
-    for trace in layout.traces:
-        wanted += hit_labels(trace, layout.marks_of(trace), belt.length)
-    for trace in layout.traces:
-        wanted += start_label(trace, layout.marks_of(trace))
-    if layout.cuts:
-        wanted.append(Label(page.at(layout.cuts[0].middle), "start"))
-        end = f"end, {metre_text(belt, belt.length)}"
-        wanted.append(Label(page.at(layout.cuts[-1].middle), end))
-    labels = Labels(page.frame, marks, layout.line_points())
+    labels = Labels(layout.page.frame, marks, layout.line_points(), layout.beam_points())
     return [part for label in wanted for part in labels.place(label)], labels.left_out
 
 
-def notes_of(layout: Layout, left_out: int) -> list[str]:
-    """What the plan cannot show."""
-    notes = []
-    if layout.outside:
-        beams = "beam" if len(layout.outside) == 1 else "beams"
-        notes.append(f"Outside the plan: {beams} {', '.join(map(str, layout.outside))}.")
-    if left_out:
-        notes.append(f"No room for {counted(left_out, 'label')}; belt show lists every hit.")
-    return notes
+def end_labels(layout: Layout) -> list[Label]:
+    """What is told of the belt's start and end."""
+    if not layout.belt.segments:
+        return []
+    places = [cut.middle for cut in layout.cuts] or layout.points
+    anchors = layout.page.all([places[0], places[-1]])
+    return [Label(at, words) for at, words in zip(anchors, end_texts(layout.belt))]

@@ -2,10 +2,12 @@
 
 import math
 from dataclasses import replace
-from itertools import pairwise
+from itertools import groupby, pairwise
 
-from beltlib.beams import Mark, Trace, marks_of, origins_of, trace_of
-from beltlib.curve import Belt, lerp, values
+from beltlib.beams import origins_of, trace_of
+from beltlib.curve import Belt, values
+from beltlib.labels import between
+from beltlib.marks import Mark, marks_of
 from beltlib.page import Page
 from beltlib.plan import Box, Cut, Plane, box_around
 from beltlib.report import Report
@@ -14,7 +16,6 @@ from beltlib.svg import Flat
 
 # Ends of pieces that lie nearer than this on the page cannot be told apart.
 END_SPACE = 7.0
-RAY_POINTS = 150
 
 
 class Layout:
@@ -29,6 +30,9 @@ class Layout:
         hits = marks_of(sheet, belt, plane, report) if report else []
         self.page = Page(self.extent(hits, origins_of(sheet, plane)))
         self.marks = [replace(mark, at=self.page.at(mark.at)) for mark in hits]
+        self.by_beam = {
+            beam: list(marks) for beam, marks in groupby(self.marks, lambda mark: mark.beam)
+        }
         beams = range(len(sheet.beams))
         traces = [trace_of(sheet, beam, plane, self.page, report) for beam in beams]
         self.traces = [trace for trace in traces if trace]
@@ -57,20 +61,25 @@ class Layout:
         """The greater of the belt's widths at its two ends."""
         return max(self.belt.segments[0].width0, self.belt.segments[-1].width1)
 
-    def marks_of(self, trace: Trace) -> list[Mark]:
-        """The hits of a beam."""
-        return [mark for mark in self.marks if mark.beam == trace.beam]
+    def hits_of(self, beam: int) -> list[Mark]:
+        """The hits of a beam, in their order along it."""
+        return self.by_beam.get(beam, [])
+
+    def several(self, beam: int) -> bool:
+        """Whether a beam has hits in several places."""
+        return any(mark.order > 1 for mark in self.hits_of(beam))
 
     def line_points(self) -> list[Flat]:
-        """Points on the page's lines, which labels had better not cover."""
+        """Points on the belt's lines, which labels had better not cover."""
         places = [
             point for cut in self.cuts for point in (cut.side(1), cut.middle, cut.side(-1))
         ]
+        return self.page.all(places + self.points)
+
+    def beam_points(self) -> list[Flat]:
+        """Points on the beams, which labels had still better not cover."""
         rays = [(trace.start, trace.end) for trace in self.traces if trace.end]
-        along = [
-            lerp(step / RAY_POINTS, start, end) for start, end in rays for step in range(RAY_POINTS)
-        ]
-        return self.page.all(places + self.points) + along
+        return [point for start, end in rays for point in between(start, end)]
 
     def end_stride(self) -> int:
         """How many pieces lie from one end that is shown to the next."""

@@ -6,7 +6,9 @@ from beltlib.hits import decimals
 from beltlib.labels import text_width
 from beltlib.layout import Layout
 from beltlib.page import round_step
-from beltlib.signs import HEAD, arrow_head, circled_dot, crossed_square, hit_mark, scale_bar
+from beltlib.signs import (
+    HEAD, arrow_head, chevron, circled_dot, crossed_square, hit_mark, later_mark, scale_bar
+)
 from beltlib.svg import Flat, circle, element, group, line, number, polygons, text
 
 ROW = 22.0
@@ -29,10 +31,12 @@ class Entry:
         return self.width + GAP + text_width(self.words)
 
 
-def draw_legend(layout: Layout, corner: Flat, width: float) -> tuple[list[str], float]:
+def draw_legend(
+    layout: Layout, listed: bool, corner: Flat, width: float
+) -> tuple[list[str], float]:
     """The elements of a legend whose upper left corner is given, and its height."""
     parts = []
-    rows = rows_of(entries_of(layout), width)
+    rows = rows_of(entries_of(layout, listed), width)
     for i, row in enumerate(rows):
         x, y = corner[0], corner[1] + ROW * (i + 0.5)
         for entry in row:
@@ -56,8 +60,8 @@ def rows_of(entries: list[Entry], width: float) -> list[list[Entry]]:
     return rows
 
 
-def entries_of(layout: Layout) -> list[Entry]:
-    """The signs that the plan has."""
+def entries_of(layout: Layout, listed: bool) -> list[Entry]:
+    """The signs that the plan has, whose hits it tells or a list does."""
     step = round_step(BAR / layout.page.scale)
     bar = step * layout.page.scale
     entries = [Entry(scale_bar(bar), bar, f"{step:.{decimals(step)}f} m")]
@@ -66,7 +70,7 @@ def entries_of(layout: Layout) -> list[Entry]:
     if layout.belt.pieces > 1:
         entries.append(end_entry(layout.end_stride()))
     control = across("control") + circle((0.0, 0.0), 2.0, "knot")
-    return [*entries, Entry(control, WIDE, "control points"), *beam_entries(layout)]
+    return [*entries, Entry(control, WIDE, "control points"), *beam_entries(layout, listed)]
 
 
 def belt_entry() -> Entry:
@@ -84,7 +88,7 @@ def end_entry(stride: int) -> Entry:
     return Entry(line((0.0, -6.0), (0.0, 6.0), "end"), 4.0, words)
 
 
-def beam_entries(layout: Layout) -> list[Entry]:
+def beam_entries(layout: Layout, listed: bool) -> list[Entry]:
     """The beams and the hits."""
     kinds = {trace.kind for trace in layout.traces}
     origin = (0.0, 0.0)
@@ -94,8 +98,14 @@ def beam_entries(layout: Layout) -> list[Entry]:
     if any(trace.end is not None for trace in layout.traces):
         head = arrow_head((WIDE / 2, 0.0), (1.0, 0.0), "head")
         entries.append(Entry(across("ray") + head, WIDE, "beam"))
+    if any(trace.away is not None for trace in layout.traces):
+        words = "origin outside, with its distance"
+        entries.append(Entry(chevron((-HEAD / 2, 0.0), (1.0, 0.0)), HEAD, words))
     if layout.marks:
-        entries.append(Entry(hit_mark(origin), 10.0, "hit, with its beam and metre"))
+        words = "hit, with its beam" if listed else "hit, with its beam, metre and height z"
+        entries.append(Entry(hit_mark(origin), 10.0, words))
+    if any(mark.order > 1 for mark in layout.marks):
+        entries.append(Entry(later_mark(origin), 10.0, "hit behind another of its beam"))
     if "miss" in kinds:
         entries.append(Entry(group("miss", [across("ray")]), WIDE, "beam that misses"))
     if "refused" in kinds:

@@ -10,7 +10,7 @@ from beltlib.svg import Flat, element, group, line, number, text
 LARGEST_FRAME = (820.0, 520.0)
 SMALLEST_FRAME = (520.0, 220.0)
 INNER = 44.0
-TOP, RIGHT, AXIS = 40.0, 18.0, 42.0
+TOP, RIGHT, AXIS = 58.0, 18.0, 42.0
 TICK_SPACE = 60.0
 TITLE = 20.0
 

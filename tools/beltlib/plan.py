@@ -69,6 +69,10 @@ class Plane:
         self.axes = PLANES[name]
         self.names = (name[0], name[1])
 
+    def is_side(self) -> bool:
+        """Whether it is upright, and the belt is seen from a side."""
+        return "z" in self.names
+
     def project(self, point: Point) -> Flat:
         """Where a point or a vector lies in the plane."""
         return point[self.axes[0]], point[self.axes[1]]
