@@ -49,10 +49,10 @@ def draw(sheet_path: str, path: str | None, plane: str) -> str:
     sheet = read_sheet(sheet_name, finished_text(sheet_path))
     belt = lay(sheet_name, sheet)
     if path is None:
-        return drawing.draw(sheet, belt, None, plane)
+        return drawing.draw(sheet, belt, None, plane, sheet_name)
     name, report = stored_report(path)
     check_match(name, report, sheet_name, sheet, belt)
-    return drawing.draw(sheet, belt, report, plane)
+    return drawing.draw(sheet, belt, report, plane, sheet_name)
 
 
 def run(path: str, program: str | None, form: str, plane: str | None) -> tuple[str, str, int]:
@@ -67,7 +67,8 @@ def run(path: str, program: str | None, form: str, plane: str | None) -> tuple[s
         return text, "", status
     check_match(name, report, sheet_name, sheet, belt)
     text, status = shown(report, form, places_on(sheet, belt))
-    return text, drawing.draw(sheet, belt, report, plane) if plane else "", status
+    plan = drawing.draw(sheet, belt, report, plane, sheet_name) if plane else ""
+    return text, plan, status
 
 
 def written_sheet(path: str) -> tuple[str, Sheet]:

@@ -7,12 +7,12 @@ from itertools import groupby
 from beltlib.curve import Belt, values
 from beltlib.hits import Place, decimals, place_of
 from beltlib.numbering import ordinal
+from beltlib.places import fixed
 from beltlib.plan import Plane
 from beltlib.report import Answer, Report
 from beltlib.sheet import Sheet
 from beltlib.signs import hit_mark, later_mark
 from beltlib.svg import Flat
-from beltlib.table import fixed
 
 # So many hits of a beam are told in one place; where there are more, the last of them too.
 MOST_TOLD = 3
