@@ -1,5 +1,4 @@
 // The report of a sheet, written block by block. The first write that fails is the last.
-ghost use mathlib.Core.Bool.{true};
 ghost use mathlib.Core.Path.{_≡_};
 ghost use Prim.Native.Nat.{_+_, _<_, _^_};
 ghost use lib.ListN.{length};

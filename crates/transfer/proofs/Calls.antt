@@ -1,7 +1,7 @@
 -- What a call does to a transfer: it stays within its bytes, and where it can go on it comes nearer to its end. Assumes nothing.
-use mathlib.Core.Bool.{Bool, true, false, _&&_, cond, and-eq-true-iff, true≢false}
+use mathlib.Core.Bool.{Bool, true, false, cond, and-eq-true-iff, true≢false}
 use mathlib.Core.List.{List}
-use mathlib.Core.Path.{_≡_, refl, sym, ap, _∙_}
+use mathlib.Core.Path.{_≡_, refl, sym, _∙_}
 use Prim.Native.Nat.{ℕ, zero, suc, _+_, _-_, _*_, _≤_, _<_, _^_}
 use native.Mathlib.Omega.{arith}
 use borrow.Author.Tests.{ltb-true, ltb-false}
@@ -13,7 +13,6 @@ use mir.Syntax.{w64}
 use mir.Val.{toZ, ofZ}
 use mir.ValLaws.{toZ-ofZ}
 use Rattle.libc.specs.Io.{Moved}
-use Rattle.transfer.specs.declared.Stand.{Stand}
 use Rattle.transfer.specs.declared.Stand.the-variants.{Open, Interrupted, Failed}
 use Rattle.transfer.specs.declared.Transfer.{Transfer}
 use Rattle.transfer.specs.Transfer.{isOpen, mostInterruptions, counted, isInterruption, stoppedAt, interruptedAgain, afterFailure, afterCall, start, Within, Answered, isDue, Reached, at-start, behind-call, Ended}

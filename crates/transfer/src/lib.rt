@@ -1,7 +1,6 @@
 // Bytes handed to the system's write, or asked of its read, until all have moved. A call may move fewer than it is
 // handed, and a signal may interrupt it before it moves any: the next call takes up where it broke off. A call that
 // fails ends the transfer, and whoever asked for it is told.
-ghost use mathlib.Core.Bool.{true};
 ghost use mathlib.Core.Path.{_≡_};
 ghost use Prim.Native.Nat.{_+_, _≤_, _<_, _^_};
 ghost use lib.ListN.{length};
@@ -10,7 +9,7 @@ ghost use Rattle.transfer.specs.Transfer.{start as Transfer·start};
 use libc::EINTR;
 
 // So many calls in a row that a signal interrupted are one failure.
-pub const MOST_INTERRUPTIONS: usize = 100;
+const MOST_INTERRUPTIONS: usize = 100;
 
 // How a transfer stands: it can go on; a call moved nothing, which for a read is the end of the input; calls were
 // interrupted too often in a row; a call failed, and errno says why.

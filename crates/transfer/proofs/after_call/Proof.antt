@@ -1,14 +1,8 @@
 -- `transfer::after_call` meets its contract: by the answer's sign, and whether it is 0. Assumes nothing.
-use Prim.Native.Nat.{_+_, _<_, _^_}
-use mathlib.Core.Bool.{false}
-use mathlib.Core.Path.{_≡_, sym, _∙_}
+use mathlib.Core.Path.{_∙_}
 use native.Mathlib.Omega.{arith}
 use borrow.Author.Needs.{needs}
-use lib.Dec.{T}
-use lib.IntN.{ℤ, pos, negsuc, natAbs}
-use lib.Signed.{ltZ, nonNeg}
 use mir.Syntax.{w32, w64}
-use mir.Val.{SFits, Fits, toZ, ofZ}
 use mir.ValLaws.{toZ-ofZ}
 use Rattle.transfer.proofs.Answers.{negative, none, some, uncounted}
 use Rattle.transfer.proofs.after_call.Statement.{statement}

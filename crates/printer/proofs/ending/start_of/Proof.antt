@@ -1,11 +1,9 @@
 -- `printer::ending::start_of` meets its contract: the place does not leave the bytes. The measure is how many lines are to be passed. Assumes nothing.
-use mathlib.Core.Bool.{true, and-eq-true-iff}
-use mathlib.Core.Path.{_≡_}
-use Prim.Native.Nat.{ℕ, _≤_, _<_, _-_}
+use mathlib.Core.Bool.{and-eq-true-iff}
+use Prim.Native.Nat.{_≤_, _<_, _-_}
 use native.Mathlib.Omega.{arith}
 use borrow.Author.Needs.{needs}
 use borrow.Author.Tests.{ltb-true}
-use lib.Dec.{ltb}
 use lib.ListN.{length}
 use Rattle.printer.proofs.ending.start_of.Statement.{statement}
 use Rattle.printer.proofs.ending.start_of.Tie as tie

@@ -1,5 +1,4 @@
 -- `printer::print::goes_on` meets its contract. Assumes nothing.
-use borrow.Author.Needs.{needs}
 use Rattle.printer.proofs.print.goes_on.Statement.{statement}
 use Rattle.printer.proofs.print.goes_on.Tie as tie
 
