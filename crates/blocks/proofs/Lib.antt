@@ -1,3 +1,3 @@
 pub mod Blocks
-mod Lines
+pub mod Lines
 mod Narrow

@@ -1,8 +1,12 @@
-// One plain sentence on standard error for a refused sheet.
+// Plain sentences on standard error: why a sheet is refused, and that a report is not whole.
+use crate::ending::Ending;
+use crate::ending::ending_of;
+use crate::print::Printed;
 use libc::STDERR_FILENO;
+use transfer::Stand;
 
 fn say(words: &[u8]) {
-    io::write_all(STDERR_FILENO, words);
+    transfer::write(STDERR_FILENO, words);
 }
 
 // What stands on a line of a sheet.
@@ -20,6 +24,16 @@ fn say_expected(line: usize) {
     }
 }
 
+// How the line ends, where it ends wrongly.
+fn say_ending(ending: Ending) {
+    match ending {
+        Ending::Lf => {}
+        Ending::CrLf => say(b"it ends in CR LF, and a line ends in LF alone; "),
+        Ending::None => say(b"the last line has no LF at its end; "),
+        Ending::NoLine => {}
+    }
+}
+
 fn say_limit(number: u8) {
     match number {
         1 => say(b"the degree is not 2 or 3\n"),
@@ -33,13 +47,33 @@ fn say_limit(number: u8) {
     }
 }
 
-pub fn explain(number: u8, line: usize) {
+pub fn explain(number: u8, line: usize, bytes: &[u8]) {
     if number == 17 {
         say(b"line ");
         io::print_decimal(STDERR_FILENO, line as u64);
         say(b": ");
+        say_ending(ending_of(bytes, line));
         say_expected(line);
     } else {
         say_limit(number);
     }
+}
+
+fn say_written(bytes: usize) {
+    io::print_decimal(STDERR_FILENO, bytes as u64);
+    say(b" bytes of it are written\n");
+}
+
+// Says that a report is cut short, and where. Why a write failed is asked first: a later call may forget it.
+pub fn tell(printed: Printed) {
+    let stand = printed.stand;
+    match stand {
+        Stand::Open => return,
+        Stand::Nothing => say(b"the report is cut short, a write took nothing\n"),
+        Stand::Interrupted => say(
+            b"the report is cut short, 100 writes in a row were interrupted\n",
+        ),
+        Stand::Failed => os::fail(b"the report is cut short, a write failed"),
+    }
+    say_written(printed.bytes);
 }
