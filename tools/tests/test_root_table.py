@@ -6,7 +6,7 @@ from math import isqrt
 
 from support import TOOLS, run, text_of
 
-GUESS = TOOLS.parent / "crates" / "float" / "src" / "guess.rt"
+TABLE = TOOLS.parent / "crates" / "root_table" / "src" / "lib.rt"
 ONE = 2**23  # the pattern of 1.0 in the last 24 bits
 
 
@@ -19,7 +19,7 @@ class RootTable(unittest.TestCase):
     def setUpClass(cls) -> None:
         done = run(tool="root_table")
         assert (done.returncode, done.stderr) == (0, ""), done.stderr
-        cls.functions = re.findall("^fn .*?^}\n", done.stdout, re.MULTILINE | re.DOTALL)
+        cls.functions = re.findall("^pub fn .*?^}\n", done.stdout, re.MULTILINE | re.DOTALL)
         cls.chord, cls.bend = map(words, cls.functions)
 
     def off(self, pattern: int) -> int:
@@ -37,7 +37,7 @@ class RootTable(unittest.TestCase):
         self.assertIn("128 parts", done.stdout)
 
     def test_the_code_has_the_table(self) -> None:
-        code = text_of(GUESS)
+        code = text_of(TABLE)
         for function in self.functions:
             self.assertIn("\n" + function, code)
 

@@ -127,7 +127,7 @@ fn read_rest(fd: i32, buf: &mut [u8], t: Transfer) -> Transfer
     after_call(t, got, os::errno())
 }
 
-fn least(a: usize, b: usize) -> usize
+fn fewer(a: usize, b: usize) -> usize
     ensures { λ r. ⌜ r ≤ a ⌝ }
     ensures { λ r. ⌜ r ≤ b ⌝ }
 {
@@ -139,7 +139,7 @@ fn skip_rest(fd: i32, buf: &mut [u8], n: usize, t: Transfer) -> Transfer
     requires { ⌜ Within n t ⌝ }
     ensures { λ r. ⌜ Answered n t r ⌝ }
 {
-    let k = least(buf.len(), n - t.done);
+    let k = fewer(buf.len(), n - t.done);
     let got = libc::read(fd, &mut buf[..k]);
     after_call(t, got, os::errno())
 }
