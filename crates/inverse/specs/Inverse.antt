@@ -25,6 +25,10 @@ pub record Placed (p : Pivot) : Type 0 where
 pub record AtMost (n : ℕ) (ipiv : List ℕ) : Type 0 where
   pub each : (k : ℕ) → k < 4 → getD ipiv k 0 ≤ n
 
+-- ipiv before the first turn
+abbrev pub noneTaken : List ℕ
+noneTaken = 0 ∷ 0 ∷ 0 ∷ 0 ∷ []
+
 -- ipiv[k] += 1
 unfoldable pub columnTaken : List ℕ → ℕ → List ℕ
 columnTaken ipiv k = set ipiv k (getD ipiv k 0 + 1)
@@ -115,10 +119,9 @@ swapColumns m i j = cond (eqb i j) m (exchangeColumns m i j)
 -- the whole; indxr[i] and indxc[i] are the row and the col of the pivot of turn i, and the last loop goes through them from 3 to 0
 unfoldable pub inverseFlat : Matrix → Matrix
 inverseFlat m =
-    let i0 : List ℕ = 0 ∷ 0 ∷ 0 ∷ 0 ∷ [] in
-    let p0 = pivotOf m i0 in
+    let p0 = pivotOf m noneTaken in
     let m1 = turned m p0 in
-    let i1 = columnTaken i0 (p0 .col) in
+    let i1 = columnTaken noneTaken (p0 .col) in
     let p1 = pivotOf m1 i1 in
     let m2 = turned m1 p1 in
     let i2 = columnTaken i1 (p1 .col) in

@@ -4,7 +4,7 @@
 ghost use mathlib.Core.Path.{_≡_};
 ghost use mathlib.Core.Logic.{_≢_};
 ghost use Prim.Native.Nat.{_<_};
-ghost use Rattle.inverse.specs.Inverse.{Placed, AtMost, columnTaken, lookEntry, lookAlong, lookRow, pivotOf, swapAt, exchangeRows, swapRows, butAt, scaleRow, cleared, clearRow, eliminated, reduced, turned, exchangeColumns, swapColumns, inverseFlat};
+ghost use Rattle.inverse.specs.Inverse.{Placed, AtMost, noneTaken, columnTaken, lookEntry, lookAlong, lookRow, pivotOf, swapAt, exchangeRows, swapRows, butAt, scaleRow, cleared, clearRow, eliminated, reduced, turned, exchangeColumns, swapColumns, inverseFlat};
 
 // The pivot found so far: big, irow and icol.
 pub struct Pivot {
@@ -13,26 +13,35 @@ pub struct Pivot {
     pub col: usize,
 }
 
-// The entry x at row j and column k, whose mark is ipiv[k]. A NaN is told apart first, which abs would do anyway: so
-// nothing that follows has to reckon with one.
-fn look(p: Pivot, mark: usize, j: usize, k: usize, x: f32) -> Pivot
-    requires { ⌜ Placed p × (j < 4) × (k < 4) ⌝ }
-    ensures { λ r. ⌜ (r ≡ lookEntry p mark j k x) × Placed r ⌝ }
+// The entry x at row j and column k, which is not taken, after the best so far. A NaN is told apart first, which abs would
+// do anyway: so nothing that follows has to reckon with one.
+fn look(best: Pivot, j: usize, k: usize, x: f32) -> Pivot
+    requires { ⌜ Placed best × (j < 4) × (k < 4) ⌝ }
+    ensures { λ r. ⌜ (r ≡ lookEntry best 0 j k x) × Placed r ⌝ }
+{
+    if x != x {
+        return best;
+    }
+    let a = float::abs(x);
+    if a >= best.big {
+        return Pivot {
+            big: a,
+            row: j,
+            col: k,
+        };
+    }
+    best
+}
+
+// The same where the column's mark, ipiv[k], says whether it is taken.
+fn look_marked(best: Pivot, mark: usize, j: usize, k: usize, x: f32) -> Pivot
+    requires { ⌜ Placed best × (j < 4) × (k < 4) ⌝ }
+    ensures { λ r. ⌜ (r ≡ lookEntry best mark j k x) × Placed r ⌝ }
 {
     if mark == 0 {
-        if x != x {
-            return p;
-        }
-        let a = float::abs(x);
-        if a >= p.big {
-            return Pivot {
-                big: a,
-                row: j,
-                col: k,
-            };
-        }
+        return look(best, j, k, x);
     }
-    p
+    best
 }
 
 fn look_along(p: Pivot, m: &[f32; 16], ipiv: &[usize; 4], j: usize) -> Pivot
@@ -40,10 +49,10 @@ fn look_along(p: Pivot, m: &[f32; 16], ipiv: &[usize; 4], j: usize) -> Pivot
     ensures { λ r. ⌜ (r ≡ lookAlong p (now (m .entry)) (now (ipiv .entry)) j) × Placed r ⌝ }
 {
     let r = 4 * j;
-    let p0 = look(p, ipiv[0], j, 0, m[r]);
-    let p1 = look(p0, ipiv[1], j, 1, m[r + 1]);
-    let p2 = look(p1, ipiv[2], j, 2, m[r + 2]);
-    look(p2, ipiv[3], j, 3, m[r + 3])
+    let p0 = look_marked(p, ipiv[0], j, 0, m[r]);
+    let p1 = look_marked(p0, ipiv[1], j, 1, m[r + 1]);
+    let p2 = look_marked(p1, ipiv[2], j, 2, m[r + 2]);
+    look_marked(p2, ipiv[3], j, 3, m[r + 3])
 }
 
 fn look_row(p: Pivot, m: &[f32; 16], ipiv: &[usize; 4], j: usize) -> Pivot
@@ -68,6 +77,32 @@ fn find_pivot(m: &[f32; 16], ipiv: &[usize; 4]) -> Pivot
     let p1 = look_row(p0, m, ipiv, 1);
     let p2 = look_row(p1, m, ipiv, 2);
     look_row(p2, m, ipiv, 3)
+}
+
+// In the first turn no column is taken, and no mark is asked for.
+fn look_along_first(p: Pivot, m: &[f32; 16], j: usize) -> Pivot
+    requires { ⌜ Placed p × (j < 4) ⌝ }
+    ensures { λ r. ⌜ (r ≡ lookAlong p (now (m .entry)) noneTaken j) × Placed r ⌝ }
+{
+    let r = 4 * j;
+    let p0 = look(p, j, 0, m[r]);
+    let p1 = look(p0, j, 1, m[r + 1]);
+    let p2 = look(p1, j, 2, m[r + 2]);
+    look(p2, j, 3, m[r + 3])
+}
+
+fn find_first(m: &[f32; 16]) -> Pivot
+    ensures { λ r. ⌜ (r ≡ pivotOf (now (m .entry)) noneTaken) × Placed r ⌝ }
+{
+    let p = Pivot {
+        big: 0.0f32,
+        row: 0,
+        col: 0,
+    };
+    let p0 = look_along_first(p, m, 0);
+    let p1 = look_along_first(p0, m, 1);
+    let p2 = look_along_first(p1, m, 2);
+    look_along_first(p2, m, 3)
 }
 
 fn swap_at(m: &mut [f32; 16], i: usize, j: usize)
@@ -195,6 +230,15 @@ fn mark(ipiv: &mut [usize; 4], c: usize)
     ipiv[c] = ipiv[c] + 1;
 }
 
+// What a turn of the outer loop does with its pivot.
+fn turn_about(m: &mut [f32; 16], row: usize, col: usize)
+    requires { ⌜ (row < 4) × (col < 4) ⌝ }
+    ensures { λ _. ⌜ now (m .exit) ≡ reduced (swapRows (now (m .entry)) row col) col ⌝ }
+{
+    swap_rows(m, row, col);
+    reduce_by_column(m, col);
+}
+
 // A turn of the outer loop: its indxr and indxc.
 fn turn(m: &mut [f32; 16], ipiv: &mut [usize; 4]) -> Pivot
     requires { ⌜ AtMost 3 (now ipiv) ⌝ }
@@ -205,8 +249,21 @@ fn turn(m: &mut [f32; 16], ipiv: &mut [usize; 4]) -> Pivot
     let row = p.row;
     let col = p.col;
     mark(ipiv, col);
-    swap_rows(m, row, col);
-    reduce_by_column(m, col);
+    turn_about(m, row, col);
+    p
+}
+
+// The first turn.
+fn first_turn(m: &mut [f32; 16], ipiv: &mut [usize; 4]) -> Pivot
+    requires { ⌜ now ipiv ≡ noneTaken ⌝ }
+    ensures pivot { λ p. ⌜ (p ≡ pivotOf (now (m .entry)) (now (ipiv .entry))) × Placed p ⌝ }
+    ensures left { λ p. ⌜ (now (m .exit) ≡ turned (now (m .entry)) p) × (now (ipiv .exit) ≡ columnTaken (now (ipiv .entry)) (p .col)) ⌝ }
+{
+    let p = find_first(m);
+    let row = p.row;
+    let col = p.col;
+    mark(ipiv, col);
+    turn_about(m, row, col);
     p
 }
 
@@ -237,7 +294,7 @@ pub fn invert(v: &mut [f32; 16])
     let mut indxc = [0usize; 4];
     let mut indxr = [0usize; 4];
     let mut ipiv = [0usize; 4];
-    let p0 = turn(v, &mut ipiv);
+    let p0 = first_turn(v, &mut ipiv);
     indxr[0] = p0.row;
     indxc[0] = p0.col;
     let p1 = turn(v, &mut ipiv);

@@ -1,39 +1,18 @@
--- `inverse::invert` meets its contract. Each turn takes one column, so before turn n no column was taken more than n times. Assumes nothing.
+-- `inverse::invert` meets its contract. Assumes nothing.
 use borrow.Author.Needs.{needs}
-use mathlib.Core.Path.{_≡_, sym, subst}
-use mathlib.Core.List.{List, [], _∷_}
-use Prim.Native.Nat.{ℕ, zero, suc, _+_, _≤_, _<_}
+use mathlib.Core.Path.{_≡_, refl}
+use mathlib.Core.List.{List}
+use Prim.Native.Nat.{ℕ}
 use native.Mathlib.Omega.{arith}
-use lib.ListN.{getD, set, getD-replicate}
-use Rattle.inverse.specs.Inverse.{AtMost, Matrix, columnTaken, pivotOf, turned, swapColumns, inverseFlat}
+use Rattle.inverse.specs.Inverse.{Matrix, noneTaken, columnTaken, pivotOf, turned, swapColumns, inverseFlat}
+use Rattle.inverse.proofs.Taken.{none, after-turn, relaxed}
 use Rattle.inverse.specs.declared.Pivot.{Pivot}
 use Rattle.inverse.proofs.invert.Statement.{statement}
 use Rattle.inverse.proofs.invert.Tie as tie
 
-set-le : (l : List ℕ) (k v j n : ℕ) → getD l j 0 ≤ n → v ≤ n → getD (set l k v) j 0 ≤ n
-set-le [] k v j n h g = h
-set-le (x ∷ l) zero v zero n h g = g
-set-le (x ∷ l) zero v (suc j) n h g = h
-set-le (x ∷ l) (suc k) v zero n h g = h
-set-le (x ∷ l) (suc k) v (suc j) n h g = set-le l k v j n h g
-
-after-turn : (n : ℕ) (l l′ : List ℕ) (k : ℕ) → l′ ≡ columnTaken l k → k < 4 → AtMost n l → AtMost (n + 1) l′
-unfolding columnTaken
-after-turn n l l′ k e kh h =
-    record {
-      each = λ j jh. subst (λ (r : List ℕ). getD r j 0 ≤ n + 1) (sym e)
-          (set-le l k (getD l k 0 + 1) j (n + 1) (omega (arith, h .each j jh)) (omega (arith, h .each k kh)));
-    }
-
-relaxed : {n : ℕ} {l : List ℕ} → n ≤ 3 → AtMost n l → AtMost 3 l
-relaxed l h = record { each = λ j jh. omega (arith, h .each j jh) }
-
-none : AtMost 0 (0 ∷ 0 ∷ 0 ∷ 0 ∷ [])
-none = record { each = λ j jh. omega (arith, getD-replicate {A = ℕ} 4 j 0 0 jh) }
-
 -- the equations that the calls leave, over plain variables: `cc` meets a bound of its own where it has to go through all of `c`
 joined : (m m1 m2 m3 m4 s3 s2 s1 s0 : Matrix) (p0 p1 p2 p3 : Pivot) (i1 i2 i3 : List ℕ)
-    → p0 ≡ pivotOf m (0 ∷ 0 ∷ 0 ∷ 0 ∷ []) → m1 ≡ turned m p0 → i1 ≡ columnTaken (0 ∷ 0 ∷ 0 ∷ 0 ∷ []) (p0 .col)
+    → p0 ≡ pivotOf m noneTaken → m1 ≡ turned m p0 → i1 ≡ columnTaken noneTaken (p0 .col)
     → p1 ≡ pivotOf m1 i1 → m2 ≡ turned m1 p1 → i2 ≡ columnTaken i1 (p1 .col)
     → p2 ≡ pivotOf m2 i2 → m3 ≡ turned m2 p2 → i3 ≡ columnTaken i2 (p2 .col)
     → p3 ≡ pivotOf m3 i3 → m4 ≡ turned m3 p3
@@ -42,34 +21,34 @@ joined : (m m1 m2 m3 m4 s3 s2 s1 s0 : Matrix) (p0 p1 p2 p3 : Pivot) (i1 i2 i3 : 
 unfolding inverseFlat
 joined m m1 m2 m3 m4 s3 s2 s1 s0 p0 p1 p2 p3 i1 i2 i3 a0 b0 d0 a1 b1 d1 a2 b2 d2 a3 b3 e3 e2 e1 e0 = cc
 
+first-turn-requires : tie.Need-first-turn-requires
+first-turn-requires c κs = refl
+
 turn-requires : tie.Need-turn-requires
-turn-requires c κs = relaxed (omega arith) none
+turn-requires c κs =
+    let t = c .before .before .first-turn in
+    relaxed (omega arith) (after-turn 0 _ _ _ (t .ensures .1 .1) (t .ensures .0 .1 .col-in) none)
 
 turn-requires-2 : tie.Need-turn-requires-2
 turn-requires-2 c κs =
-    let t = c .before .before .turn in
-    relaxed (omega arith) (after-turn 0 _ _ _ (t .ensures .1 .1) (t .ensures .0 .1 .col-in) none)
+    let c1 = c .before .before in
+    let t = c1 .before .before .before .first-turn in
+    relaxed (omega arith) (after-turn 1 _ _ _ (c1 .turn .ensures .1 .1) (c1 .turn .ensures .0 .1 .col-in)
+    (after-turn 0 _ _ _ (t .ensures .1 .1) (t .ensures .0 .1 .col-in) none))
 
 turn-requires-3 : tie.Need-turn-requires-3
 turn-requires-3 c κs =
-    let c1 = c .before .before in
-    let t = c1 .before .before .before .turn in
-    relaxed (omega arith) (after-turn 1 _ _ _ (c1 .turn2 .ensures .1 .1) (c1 .turn2 .ensures .0 .1 .col-in)
-    (after-turn 0 _ _ _ (t .ensures .1 .1) (t .ensures .0 .1 .col-in) none))
-
-turn-requires-4 : tie.Need-turn-requires-4
-turn-requires-4 c κs =
     let c2 = c .before .before in
     let c1 = c2 .before .before .before in
-    let t = c1 .before .before .before .turn in
-    after-turn 2 _ _ _ (c2 .turn3 .ensures .1 .1) (c2 .turn3 .ensures .0 .1 .col-in)
-    (after-turn 1 _ _ _ (c1 .turn2 .ensures .1 .1) (c1 .turn2 .ensures .0 .1 .col-in)
+    let t = c1 .before .before .before .first-turn in
+    after-turn 2 _ _ _ (c2 .turn2 .ensures .1 .1) (c2 .turn2 .ensures .0 .1 .col-in)
+    (after-turn 1 _ _ _ (c1 .turn .ensures .1 .1) (c1 .turn .ensures .0 .1 .col-in)
     (after-turn 0 _ _ _ (t .ensures .1 .1) (t .ensures .0 .1 .col-in) none))
 
 swap-columns-requires-4 : tie.Need-swap-columns-requires-4
 swap-columns-requires-4 c κs =
     let c4 = c .before .before .before .before .before .before .before in
-    let t = c4 .before .before .before .before .before .before .before .before .before .turn in
+    let t = c4 .before .before .before .before .before .before .before .before .before .first-turn in
     (t .ensures .0 .1 .row-in, t .ensures .0 .1 .col-in)
 
 returns : tie.Need-returns
@@ -82,19 +61,19 @@ returns c =
     let t1 = t2 .before .before .before in
     let t0 = t1 .before .before .before in
     joined _ _ _ _ _ _ _ _ _ _ _ _ _ _ _ _
-    (t0 .turn .ensures .0 .0) (t0 .turn .ensures .1 .0) (t0 .turn .ensures .1 .1)
-    (t1 .turn2 .ensures .0 .0) (t1 .turn2 .ensures .1 .0) (t1 .turn2 .ensures .1 .1)
-    (t2 .turn3 .ensures .0 .0) (t2 .turn3 .ensures .1 .0) (t2 .turn3 .ensures .1 .1)
-    (t3 .turn4 .ensures .0 .0) (t3 .turn4 .ensures .1 .0)
+    (t0 .first-turn .ensures .0 .0) (t0 .first-turn .ensures .1 .0) (t0 .first-turn .ensures .1 .1)
+    (t1 .turn .ensures .0 .0) (t1 .turn .ensures .1 .0) (t1 .turn .ensures .1 .1)
+    (t2 .turn2 .ensures .0 .0) (t2 .turn2 .ensures .1 .0) (t2 .turn2 .ensures .1 .1)
+    (t3 .turn3 .ensures .0 .0) (t3 .turn3 .ensures .1 .0)
     (s0 .swap-columns .ensures) (s1 .swap-columns2 .ensures) (s2 .swap-columns3 .ensures) (c .swap-columns4 .ensures)
 
 pub invert-spec : {M : Type 1} → statement M
 invert-spec =
     tie.close
-    (tie.spec turn-requires (λ c. search needs) (λ c. search needs)
+    (tie.spec first-turn-requires (λ c. search needs) (λ c. search needs)
+    turn-requires (λ c. search needs) (λ c. search needs)
     turn-requires-2 (λ c. search needs) (λ c. search needs)
     turn-requires-3 (λ c. search needs) (λ c. search needs)
-    turn-requires-4 (λ c. search needs) (λ c. search needs)
     (λ c. search needs) (λ c. search needs) (λ c κs. search needs)
     (λ c. search needs) (λ c. search needs) (λ c κs. search needs)
     (λ c. search needs) (λ c. search needs) (λ c κs. search needs)

@@ -1,6 +1,5 @@
 -- `inverse::look` meets its contract: what differs from itself is a NaN, which is at least nothing. Assumes nothing.
 use borrow.Author.Needs.{needs}
-use borrow.Author.Tests.{eq-eqb, ne-eqb}
 use mathlib.Core.Path.{_≡_, refl, sym, ap, subst, _∙_}
 use mathlib.Core.Bool.{true, false}
 use lib.Dec.{T}
@@ -23,23 +22,17 @@ passed-by b x h = ap (λ (y : Float). le b (absOf y)) (differs-from-itself x (su
 
 returns : tie.Need-returns
 unfolding lookEntry
-returns c =
-    let a = c .before .before .args in
-    (simp (eq-eqb _ _ (c .before .if1 .taken), passed-by (a .p .big) (a .x) (c .if2 .taken)), search needs)
+returns c = let a = c .before .args in (simp (passed-by (a .best .big) (a .x) (c .if1 .taken)), search needs)
 
 returns-2 : tie.Need-returns-2
 unfolding lookEntry
-returns-2 c = (simp (eq-eqb _ _ (c .before .before .before .before .if1 .taken), ← c .before .before .abs .ensures, c .if3 .taken), search needs)
+returns-2 c = (simp (← c .before .before .abs .ensures, c .if2 .taken), search needs)
 
 returns-3 : tie.Need-returns-3
 unfolding lookEntry
-returns-3 c = (simp (eq-eqb _ _ (c .before .before .before .before .if1 .taken), ← c .before .before .abs .ensures, c .if3 .left), search needs)
-
-returns-4 : tie.Need-returns-4
-unfolding lookEntry
-returns-4 c = (simp (ne-eqb _ _ (c .if1 .left)), search needs)
+returns-3 c = (simp (← c .before .before .abs .ensures, c .if2 .left), search needs)
 
 pub look-spec : {M : Type 1} → statement M
 look-spec =
     tie.close
-    (tie.spec returns (λ c κs. search needs) returns-2 returns-3 returns-4)
+    (tie.spec returns (λ c κs. search needs) returns-2 returns-3)

@@ -11,7 +11,7 @@ returns c =
     let c3 = c .before .before .before in
     let c2 = c3 .before .before .before in
     let c1 = c2 .before .before .before in
-    (simp (c .look4 .ensures .0, c3 .look3 .ensures .0, c2 .look2 .ensures .0, c1 .look .ensures .0), c .look4 .ensures .1)
+    (simp (c .look-marked4 .ensures .0, c3 .look-marked3 .ensures .0, c2 .look-marked2 .ensures .0, c1 .look-marked .ensures .0), c .look-marked4 .ensures .1)
 
 pub look-along-spec : {M : Type 1} → statement M
 look-along-spec =

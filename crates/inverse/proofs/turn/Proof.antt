@@ -7,11 +7,10 @@ use Rattle.inverse.proofs.turn.Tie as tie
 returns : tie.Need-returns
 unfolding turned
 returns c =
-    let s = c .before .before in
-    let b = s .before .before in
-    (b .before .before .find-pivot .ensures, (rw (c .reduce-by-column .ensures, s .swap-rows .ensures), b .mark .ensures))
+    let b = c .before .before in
+    (b .before .before .find-pivot .ensures, (c .turn-about .ensures, b .mark .ensures))
 
 pub turn-spec : {M : Type 1} → statement M
 turn-spec =
     tie.close
-    (tie.spec (λ c κs. search needs) (λ c κs. search needs) (λ c κs. search needs) (λ c κs. search needs) returns)
+    (tie.spec (λ c κs. search needs) (λ c κs. search needs) (λ c κs. search needs) returns)
