@@ -13,7 +13,8 @@ use lib.ListN.{getD, set}
 use lib.Seq.{getD-set-other, set-comm}
 use lib.Ieee.{Float, nan}
 use Rattle.float.specs.Arith.{_⊖_, _⊗_, _⊘_, 0f, 1f}
-use Rattle.inverse.specs.Inverse.{Matrix, at, scaleRow, cleared}
+use Rattle.pivot.specs.Pivot.{Matrix, at}
+use Rattle.inverse.specs.Inverse.{scaleRow, cleared}
 
 -- a place that was just written is written by what was put there, also past the list's end
 set-again : {A : Type 0} (l : List A) (i : ℕ) (a d : A) (f : A → A) → set (set l i a) i (f (getD (set l i a) i d)) ≡ set l i (f a)

@@ -4,7 +4,8 @@ use mathlib.Core.List.{List, [], _∷_}
 use Prim.Native.Nat.{ℕ, zero, suc, _+_, _≤_, _<_}
 use native.Mathlib.Omega.{arith}
 use lib.ListN.{getD, set, getD-replicate}
-use Rattle.inverse.specs.Inverse.{AtMost, noneTaken, columnTaken}
+use Rattle.pivot.specs.Pivot.{noneTaken}
+use Rattle.inverse.specs.Inverse.{AtMost, columnTaken}
 
 set-le : (l : List ℕ) (k v j n : ℕ) → getD l j 0 ≤ n → v ≤ n → getD (set l k v) j 0 ≤ n
 set-le [] k v j n h g = h

@@ -2,60 +2,21 @@
 -- the order of the Rust. A matrix is a list of sixteen floats, with `m[j][k]` at 4 * j + k. `error!`, which only logs, has no part here.
 use Prim.Native.Nat.{ℕ, _+_, _*_, _≤_, _<_}
 use mathlib.Core.Bool.{cond}
-use mathlib.Core.List.{List, [], _∷_}
+use mathlib.Core.List.{List}
 use lib.Dec.{eqb}
 use lib.ListN.{getD, set}
-use lib.Ieee.{Float, nan, le}
+use lib.Ieee.{Float}
 use Rattle.float.specs.Arith.{_⊖_, _⊗_, _⊘_, 0f, 1f}
-use Rattle.float.specs.Basic.{absOf}
-use Rattle.inverse.specs.declared.Pivot.{Pivot}
-
-abbrev pub Matrix : Type 0
-Matrix = List Float
-
-abbrev pub at : Matrix → ℕ → Float
-at m i = getD m i nan
-
--- For functions inside: a place in the matrix.
-pub record Placed (p : Pivot) : Type 0 where
-  pub row-in : p .row < 4
-  pub col-in : p .col < 4
+use Rattle.pivot.specs.declared.Pivot.{Pivot}
+use Rattle.pivot.specs.Pivot.{Matrix, at, noneTaken, pivotOf}
 
 -- For functions inside: no column was taken more than n times.
 pub record AtMost (n : ℕ) (ipiv : List ℕ) : Type 0 where
   pub each : (k : ℕ) → k < 4 → getD ipiv k 0 ≤ n
 
--- ipiv before the first turn
-abbrev pub noneTaken : List ℕ
-noneTaken = 0 ∷ 0 ∷ 0 ∷ 0 ∷ []
-
 -- ipiv[k] += 1
 unfoldable pub columnTaken : List ℕ → ℕ → List ℕ
 columnTaken ipiv k = set ipiv k (getD ipiv k 0 + 1)
-
--- if ipiv[k] == 0 { let abs = minv[j][k].abs(); if abs >= big { big = abs; irow = j; icol = k } }, with mark = ipiv[k] and x = minv[j][k]
-unfoldable pub lookEntry : Pivot → ℕ → ℕ → ℕ → Float → Pivot
-lookEntry p mark j k x = cond (eqb mark 0) (cond (le (p .big) (absOf x)) (record { big = absOf x; row = j; col = k }) p) p
-
--- for k in 0..4 { .. }
-unfoldable pub lookAlong : Pivot → Matrix → List ℕ → ℕ → Pivot
-lookAlong p m ipiv j =
-    let p0 = lookEntry p (getD ipiv 0 0) j 0 (at m (4 * j)) in
-    let p1 = lookEntry p0 (getD ipiv 1 0) j 1 (at m (4 * j + 1)) in
-    let p2 = lookEntry p1 (getD ipiv 2 0) j 2 (at m (4 * j + 2)) in
-    lookEntry p2 (getD ipiv 3 0) j 3 (at m (4 * j + 3))
-
--- if ipiv[j] != 1 { for k in 0..4 { .. } }
-unfoldable pub lookRow : Pivot → Matrix → List ℕ → ℕ → Pivot
-lookRow p m ipiv j = cond (eqb (getD ipiv j 0) 1) p (lookAlong p m ipiv j)
-
--- for j in 0..4 { .. }: big, irow and icol
-unfoldable pub pivotOf : Matrix → List ℕ → Pivot
-pivotOf m ipiv =
-    let p0 = lookRow (record { big = 0f; row = 0; col = 0 }) m ipiv 0 in
-    let p1 = lookRow p0 m ipiv 1 in
-    let p2 = lookRow p1 m ipiv 2 in
-    lookRow p2 m ipiv 3
 
 -- let swap = m[i]; m[i] = m[j]; m[j] = swap
 unfoldable pub swapAt : Matrix → ℕ → ℕ → Matrix

@@ -4,7 +4,8 @@ use mathlib.Core.List.{List}
 use mathlib.Core.Path.{_≡_, sym, subst}
 use Prim.Native.Nat.{ℕ}
 use native.Mathlib.Omega.{arith}
-use Rattle.inverse.specs.Inverse.{AtMost, noneTaken, turned}
+use Rattle.pivot.specs.Pivot.{noneTaken}
+use Rattle.inverse.specs.Inverse.{AtMost, turned}
 use Rattle.inverse.proofs.Taken.{none, relaxed}
 use Rattle.inverse.proofs.first_turn.Statement.{statement}
 use Rattle.inverse.proofs.first_turn.Tie as tie

@@ -4,9 +4,10 @@ use mathlib.Core.Path.{_≡_, refl}
 use mathlib.Core.List.{List}
 use Prim.Native.Nat.{ℕ}
 use native.Mathlib.Omega.{arith}
-use Rattle.inverse.specs.Inverse.{Matrix, noneTaken, columnTaken, pivotOf, turned, swapColumns, inverseFlat}
+use Rattle.pivot.specs.Pivot.{Matrix, noneTaken, pivotOf}
+use Rattle.inverse.specs.Inverse.{columnTaken, turned, swapColumns, inverseFlat}
 use Rattle.inverse.proofs.Taken.{none, after-turn, relaxed}
-use Rattle.inverse.specs.declared.Pivot.{Pivot}
+use Rattle.pivot.specs.declared.Pivot.{Pivot}
 use Rattle.inverse.proofs.invert.Statement.{statement}
 use Rattle.inverse.proofs.invert.Tie as tie
 

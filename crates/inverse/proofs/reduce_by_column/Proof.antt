@@ -3,7 +3,8 @@ use borrow.Author.Needs.{needs}
 use mathlib.Core.Path.{_≡_, sym, subst}
 use Prim.Native.Nat.{ℕ}
 use native.Mathlib.Omega.{arith}
-use Rattle.inverse.specs.Inverse.{Matrix, reduced}
+use Rattle.pivot.specs.Pivot.{Matrix}
+use Rattle.inverse.specs.Inverse.{reduced}
 use Rattle.inverse.proofs.reduce_by_column.Statement.{statement}
 use Rattle.inverse.proofs.reduce_by_column.Tie as tie
 

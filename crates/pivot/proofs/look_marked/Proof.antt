@@ -1,9 +1,9 @@
--- `inverse::look_marked` meets its contract. Assumes nothing.
+-- `pivot::look_marked` meets its contract. Assumes nothing.
 use borrow.Author.Needs.{needs}
 use borrow.Author.Tests.{ne-eqb}
-use Rattle.inverse.specs.Inverse.{lookEntry}
-use Rattle.inverse.proofs.look_marked.Statement.{statement}
-use Rattle.inverse.proofs.look_marked.Tie as tie
+use Rattle.pivot.specs.Pivot.{lookEntry}
+use Rattle.pivot.proofs.look_marked.Statement.{statement}
+use Rattle.pivot.proofs.look_marked.Tie as tie
 
 returns : tie.Need-returns
 returns c = (rw (c .before .if1 .taken) (c .look .ensures .0), c .look .ensures .1)

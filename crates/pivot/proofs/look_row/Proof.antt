@@ -1,9 +1,9 @@
--- `inverse::look_row` meets its contract. Assumes nothing.
+-- `pivot::look_row` meets its contract. Assumes nothing.
 use borrow.Author.Needs.{needs}
 use borrow.Author.Tests.{eq-eqb, ne-eqb}
-use Rattle.inverse.specs.Inverse.{lookRow}
-use Rattle.inverse.proofs.look_row.Statement.{statement}
-use Rattle.inverse.proofs.look_row.Tie as tie
+use Rattle.pivot.specs.Pivot.{lookRow}
+use Rattle.pivot.proofs.look_row.Statement.{statement}
+use Rattle.pivot.proofs.look_row.Tie as tie
 
 returns : tie.Need-returns
 unfolding lookRow

@@ -1,9 +1,9 @@
--- `inverse::look_along` meets its contract. Assumes nothing.
+-- `pivot::look_along` meets its contract. Assumes nothing.
 use borrow.Author.Needs.{needs}
 use native.Mathlib.Omega.{arith}
-use Rattle.inverse.specs.Inverse.{lookAlong}
-use Rattle.inverse.proofs.look_along.Statement.{statement}
-use Rattle.inverse.proofs.look_along.Tie as tie
+use Rattle.pivot.specs.Pivot.{lookAlong}
+use Rattle.pivot.proofs.look_along.Statement.{statement}
+use Rattle.pivot.proofs.look_along.Tie as tie
 
 returns : tie.Need-returns
 unfolding lookAlong

@@ -1,8 +1,8 @@
--- `inverse::find_first` meets its contract. Assumes nothing.
+-- `pivot::find_first` meets its contract. Assumes nothing.
 use borrow.Author.Needs.{needs}
-use Rattle.inverse.specs.Inverse.{lookRow, pivotOf}
-use Rattle.inverse.proofs.find_first.Statement.{statement}
-use Rattle.inverse.proofs.find_first.Tie as tie
+use Rattle.pivot.specs.Pivot.{lookRow, pivotOf}
+use Rattle.pivot.proofs.find_first.Statement.{statement}
+use Rattle.pivot.proofs.find_first.Tie as tie
 
 returns : tie.Need-returns
 unfolding pivotOf lookRow

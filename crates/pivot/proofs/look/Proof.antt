@@ -1,4 +1,4 @@
--- `inverse::look` meets its contract: what differs from itself is a NaN, which is at least nothing. Assumes nothing.
+-- `pivot::look` meets its contract: what differs from itself is a NaN, which is at least nothing. Assumes nothing.
 use borrow.Author.Needs.{needs}
 use mathlib.Core.Path.{_≡_, refl, sym, ap, subst, _∙_}
 use mathlib.Core.Bool.{true, false}
@@ -6,9 +6,9 @@ use lib.Dec.{T}
 use lib.Ieee.{Float, nan, inf, fin, lt, eq, le, ne}
 use lib.Ieee.Compare.{differs-from-itself}
 use Rattle.float.specs.Basic.{absOf}
-use Rattle.inverse.specs.Inverse.{lookEntry}
-use Rattle.inverse.proofs.look.Statement.{statement}
-use Rattle.inverse.proofs.look.Tie as tie
+use Rattle.pivot.specs.Pivot.{lookEntry}
+use Rattle.pivot.proofs.look.Statement.{statement}
+use Rattle.pivot.proofs.look.Tie as tie
 
 under-nan : (b : Float) → le b (absOf nan) ≡ false
 unfolding le lt eq absOf

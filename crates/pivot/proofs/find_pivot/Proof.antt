@@ -1,8 +1,8 @@
--- `inverse::find_pivot` meets its contract. Assumes nothing.
+-- `pivot::find_pivot` meets its contract. Assumes nothing.
 use borrow.Author.Needs.{needs}
-use Rattle.inverse.specs.Inverse.{pivotOf}
-use Rattle.inverse.proofs.find_pivot.Statement.{statement}
-use Rattle.inverse.proofs.find_pivot.Tie as tie
+use Rattle.pivot.specs.Pivot.{pivotOf}
+use Rattle.pivot.proofs.find_pivot.Statement.{statement}
+use Rattle.pivot.proofs.find_pivot.Tie as tie
 
 returns : tie.Need-returns
 unfolding pivotOf
