@@ -110,7 +110,7 @@ fn min_of_number(a: f32, b: f32) -> f32
     if b < a { b } else { a }
 }
 
-fn max_of_number(a: f32, b: f32) -> f32
+pub fn max_of_number(a: f32, b: f32) -> f32
     requires { ⌜ isNan a ≡ false ⌝ }
     ensures { λ r. ⌜ r ≡ maxOf a b ⌝ }
 {

@@ -8,6 +8,7 @@ mod polygon;
 pub use axis::Axis;
 pub use axis::greatest;
 pub use axis::least;
+pub use axis::max_of_number;
 pub use axis::part;
 pub use cubic::Cubic;
 pub use cubic::Eval;

@@ -5,6 +5,7 @@ ghost use lib.ListN.{length};
 ghost use Rattle.curve.specs.Layout.{floats, curveFrom};
 ghost use Rattle.overlap.specs.Depth.{bend, bendsAt, greatestBend, flatness, exponentOf, logOf, depthAt, depthOf};
 use bezier::Cubic;
+use bezier::max_of_number;
 use curve::WIDTH0;
 use curve::WIDTH1;
 use geometry::Point3f;
@@ -16,21 +17,26 @@ fn second_difference(a: f32, b: f32, c: f32) -> f32
     float::abs(a - 2.0 * b + c)
 }
 
+// Where the first is a number, no other NaN matters.
 fn largest_of(a: Point3f, b: Point3f, c: Point3f) -> f32
     ensures { λ r. ⌜ r ≡ bendsAt a b c ⌝ }
 {
     let x = second_difference(a.x, b.x, c.x);
     let y = second_difference(a.y, b.y, c.y);
     let z = second_difference(a.z, b.z, c.z);
-    float::max(float::max(x, y), z)
+    if x != x {
+        float::max(float::max(x, y), z)
+    } else {
+        max_of_number(max_of_number(x, y), z)
+    }
 }
 
 // The Rust's L0.
 fn largest_second_difference(cp: Cubic) -> f32
     ensures { λ r. ⌜ r ≡ greatestBend cp ⌝ }
 {
-    let first = float::max(0.0, largest_of(cp.p0, cp.p1, cp.p2));
-    float::max(first, largest_of(cp.p1, cp.p2, cp.p3))
+    let first = max_of_number(0.0, largest_of(cp.p0, cp.p1, cp.p2));
+    max_of_number(first, largest_of(cp.p1, cp.p2, cp.p3))
 }
 
 fn flatness_ratio(curve: &[f32], cp: Cubic) -> f32

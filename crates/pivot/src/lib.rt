@@ -64,6 +64,7 @@ fn look_row(p: Pivot, m: &[f32; 16], ipiv: &[usize; 4], j: usize) -> Pivot
     look_along(p, m, ipiv, j)
 }
 
+// The pivot of a turn, by the marks.
 pub fn find_pivot(m: &[f32; 16], ipiv: &[usize; 4]) -> Pivot
     ensures { λ r. ⌜ (r ≡ pivotOf (now (m .entry)) (now (ipiv .entry))) × Placed r ⌝ }
 {
@@ -78,7 +79,7 @@ pub fn find_pivot(m: &[f32; 16], ipiv: &[usize; 4]) -> Pivot
     look_row(p2, m, ipiv, 3)
 }
 
-// In the first turn no column is taken, and no mark is asked for.
+// In the first turn no column is taken: it is quicker where no mark is asked for.
 fn look_along_first(p: Pivot, m: &[f32; 16], j: usize) -> Pivot
     requires { ⌜ Placed p × (j < 4) ⌝ }
     ensures { λ r. ⌜ (r ≡ lookAlong p (now (m .entry)) noneTaken j) × Placed r ⌝ }
@@ -90,6 +91,7 @@ fn look_along_first(p: Pivot, m: &[f32; 16], j: usize) -> Pivot
     look(p2, j, 3, m[r + 3])
 }
 
+// The pivot of the first turn.
 pub fn find_first(m: &[f32; 16]) -> Pivot
     ensures { λ r. ⌜ (r ≡ pivotOf (now (m .entry)) noneTaken) × Placed r ⌝ }
 {

@@ -26,7 +26,7 @@ returns c = let a = c .before .args in (simp (passed-by (a .best .big) (a .x) (c
 
 returns-2 : tie.Need-returns-2
 unfolding lookEntry
-returns-2 c = (simp (← c .before .before .abs .ensures, c .if2 .taken), search needs)
+returns-2 c = (unfold le in simp (← c .before .before .abs .ensures, c .if2 .taken), search needs)
 
 returns-3 : tie.Need-returns-3
 unfolding lookEntry
