@@ -130,10 +130,10 @@ unfolding firstBelow
 first-none zero P h = refl
 first-none (suc n) P h = rw (first-none n P (λ j l. h j (omega arith)), h n (le-refl (suc n)))
 
-pub last-none : (n : ℕ) (P : ℕ → Bool) → ((j : ℕ) → j < n → P j ≡ false) → lastBelow n P ≡ none
-unfolding lastBelow
-last-none zero P h = refl
-last-none (suc n) P h = rw (last-none n P (λ j l. h j (omega arith)), h n (le-refl (suc n)))
+pub best-none : (beats : ℕ → ℕ → Bool) (n : ℕ) (P : ℕ → Bool) → ((j : ℕ) → j < n → P j ≡ false) → bestBelow beats n P ≡ none
+unfolding bestBelow
+best-none beats zero P h = refl
+best-none beats (suc n) P h = rw (best-none beats n P (λ j l. h j (omega arith)), h n (le-refl (suc n)))
 
 -- ---- bounds
 
@@ -194,6 +194,17 @@ best-last (suc n) P = ap (better (λ j i. true) (P n) n) (best-last n P) ∙ go 
     go true (some i) = refl
     go false o = refl
 
+-- only the numbers that pass are put in order
+pub best-ext : (n : ℕ) (P : ℕ → Bool) (b c : ℕ → ℕ → Bool) → ((j i : ℕ) → j < n → P j ≡ true → b j i ≡ c j i) → bestBelow b n P ≡ bestBelow c n P
+unfolding bestBelow
+best-ext zero P b c h = refl
+best-ext (suc n) P b c h = ap (better b (P n) n) (best-ext n P b c (λ j i l. h j i (omega arith))) ∙ go (P n) refl (bestBelow c n P)
+  where
+    go : (t : Bool) → P n ≡ t → (o : Option ℕ) → better b t n o ≡ better c t n o
+    go false e o = refl
+    go true e none = refl
+    go true e (some i) = ap (λ x. some (choose x n i)) (h n i (le-refl (suc n)) e)
+
 -- a number that was found is below n, and passes
 abbrev pub IsIn : ℕ → (ℕ → Bool) → Option ℕ → Type 0
 IsIn n P none = Unit {0}
@@ -237,14 +248,14 @@ module _ (beats : ℕ → ℕ → Bool) (P : ℕ → Bool) where
   IsBest n (some i) =
       (i < n) × (P i ≡ true) × ((j : ℕ) → j < i → P j ≡ true → beats i j ≡ true) × ((j : ℕ) → i < j → j < n → P j ≡ true → beats j i ≡ false)
 
-  module _ (trans : (a b c : ℕ) → beats a b ≡ true → beats b c ≡ true → beats a c ≡ true) (ntrans : (a b c : ℕ) → beats a b ≡ false → beats b c ≡ false → beats a c ≡ false) where
+  module _ (trans : (a b c : ℕ) → P b ≡ true → beats a b ≡ true → beats b c ≡ true → beats a c ≡ true) (ntrans : (a b c : ℕ) → P b ≡ true → beats a b ≡ false → beats b c ≡ false → beats a c ≡ false) where
     -- a beats c, which b does not beat, so a beats b
-    over-b : (a b c : ℕ) → beats a c ≡ true → beats b c ≡ false → beats a b ≡ true
-    over-b a b c e e′ = go (beats a b) refl
+    over-b : (a b c : ℕ) → P b ≡ true → beats a c ≡ true → beats b c ≡ false → beats a b ≡ true
+    over-b a b c p e e′ = go (beats a b) refl
       where
         go : (t : Bool) → beats a b ≡ t → t ≡ true
         go true q = refl
-        go false q = absurd (true≢false (sym e ∙ ntrans a b c q e′))
+        go false q = absurd (true≢false (sym e ∙ ntrans a b c p q e′))
 
     pub best-is : (n : ℕ) → IsBest n (bestBelow beats n P)
     unfolding bestBelow
@@ -255,7 +266,7 @@ module _ (beats : ℕ → ℕ → Bool) (P : ℕ → Bool) where
         chosen true i q e h = (
           le-refl (suc n),
           e,
-          (λ j l p. ⊎-elim (λ s. rw s q) (⊎-elim (λ lt. trans n i j q (h .2 j lt p)) (λ lt. over-b n j i q (h .3 j lt l p))) (cases j i)),
+          (λ j l p. ⊎-elim (λ s. rw s q) (⊎-elim (λ lt. trans n i j (h .1) q (h .2 j lt p)) (λ lt. over-b n j i p q (h .3 j lt l p))) (cases j i)),
           λ j a b p. absurd (omega arith),
         )
         chosen false i q e h = (omega (arith, h .0), h .1, h .2, λ j a l p. ⊎-elim (λ s. rw s q) (λ lt. h .3 j a lt p) (eq-or-lt-of-le (le-of-suc-le-suc l)))

@@ -1,5 +1,5 @@
 -- A walk that keeps the best leaf so far: its reply is that of the stop, or of the best open leaf that passes. Where each leaf takes the place of the one before, that is the last. Assumes nothing.
-use mathlib.Core.Bool.{Bool, true, false, cond, _&&_, false≢true}
+use mathlib.Core.Bool.{Bool, true, false, cond, _&&_, _||_, false≢true}
 use mathlib.Core.Option.{Option, none, some}
 use mathlib.Core.Path.{_≡_, refl, sym, ap, ap₂, _∙_}
 use Prim.Native.Nat.{ℕ, zero, suc, _^_, _<_}
@@ -8,7 +8,7 @@ use native.Mathlib.Omega.{arith}
 use Rattle.bisection.specs.Below.{orElse, atOr, choose, bestBelow}
 use Rattle.bisection.specs.Nodes.{node, isOpen, passesAt, firstOpen, lastOpen, bestOpen, openUpTo}
 use Rattle.bisection.specs.Walk.{walkOf}
-use Rattle.bisection.proofs.Below.{best-last, best-top, fold-best}
+use Rattle.bisection.proofs.Below.{best-last, best-ext, best-top, fold-best}
 use Rattle.bisection.proofs.Nodes.{reach, before-upTo}
 use Rattle.bisection.proofs.Walked.{times, onlyIf, leafNode, walkedUpTo, Laws, IsStop, stop-is, walk-is}
 
@@ -18,9 +18,8 @@ module _ {Node St : Type 0} (step : Node → St → St) (enter : St → St) (sto
     pub live-miss : Live (miss 0)
     pub skips : (p : Node) (q : St) → passes p ≡ false → step p q ≡ q
     pub takes : (p : Node) → passes p ≡ true → step p (miss 0) ≡ reply 0 p
-    pub chooses : (p q : Node) → passes q ≡ true → stops q ≡ false → passes p ≡ true → step p (reply 0 q) ≡ reply 0 (cond (beats p q) p q)
+    pub chooses : (p q : Node) → passes q ≡ true → stops q ≡ false → passes p ≡ true → step p (reply 0 q) ≡ reply 0 (cond (stops p || beats p q) p q)
     pub stop-passes : (p : Node) → stops p ≡ true → passes p ≡ true
-    pub stop-beats : (p q : Node) → stops p ≡ true → passes q ≡ true → stops q ≡ false → beats p q ≡ true
     pub enter-miss : (n : ℕ) → enter (miss n) ≡ miss (suc n)
     pub enter-reply : (n : ℕ) (p : Node) → enter (reply n p) ≡ reply (suc n) p
 
@@ -37,8 +36,9 @@ module _ {Node St : Type 0} (low high : Node → Node) (thrown : Node → Bool) 
     abbrev stop : ℕ → Bool
     stop = passesAt low high thrown stops true s d
 
+    -- a stop takes the place of every leaf before it
     abbrev sooner : ℕ → ℕ → Bool
-    sooner j i = beats (at j) (at i)
+    sooner j i = stops (at j) || beats (at j) (at i)
 
     abbrev value : ℕ → ℕ → St
     value n j = reply n (at j)
@@ -96,10 +96,8 @@ module _ {Node St : Type 0} (low high : Node → Node) (thrown : Node → Bool) 
     -- of the leaves that were reached the best is the stop, and with no stop it is the best of all
     best-reached : (o : Option ℕ) → Stop o → bestBelow sooner (reach (2 ^ d) o) pass ≡ orElse o (bestOpen low high thrown passes beats true s d)
     unfolding bestOpen
-    best-reached none h = refl
-    best-reached (some i) h =
-        let a = open-pass stops i (h .1) in
-        best-top sooner pass i (is-pass i (a .0) (K .stop-passes _ (a .1))) (λ j l e. let b = open-pass passes j e in K .stop-beats (at i) (at j) (a .1) (b .1) (open-test stops j false (b .0) (h .2 j l)))
+    best-reached none h = best-ext (2 ^ d) pass sooner (λ j i. beats (at j) (at i)) (λ j i l e. rw (open-test stops j false (open-pass passes j e .0) (h j l)))
+    best-reached (some i) h = let a = open-pass stops i (h .1) in best-top sooner pass i (is-pass i (a .0) (K .stop-passes _ (a .1))) (λ j l e. rw (a .1))
 
     entries : (n : ℕ) (o : Option ℕ) → times n enter (atOr (value 0) (miss 0) o) ≡ atOr (value n) (miss n) o
     unfolding times

@@ -10,8 +10,8 @@ use lib.Dec.{ltb, eqb, leb·suc-suc}
 use lib.Pow.{pow-pos, pow-add, shr-shr}
 use borrow.Author.Tests.{not-true, ltb-true, ltb-false, lt-ltb, le-ltb}
 use Rattle.bisection.specs.Below.{oneIf, orElse, countBelow, sumBelow}
-use Rattle.bisection.specs.Nodes.{notAfter, childOf, node, isOpen, openUpTo, passesAt, firstOpen, lastOpen}
-use Rattle.bisection.proofs.Below.{shift, first-ext, first-none, last-none, first-split, count-ext, count-split, count-le, count-none, sum-ext, sum-first, sum-add, sum-le, sum-none}
+use Rattle.bisection.specs.Nodes.{notAfter, childOf, node, isOpen, openUpTo, passesAt, firstOpen, bestOpen}
+use Rattle.bisection.proofs.Below.{shift, first-ext, first-none, best-none, first-split, count-ext, count-split, count-le, count-none, sum-ext, sum-first, sum-add, sum-le, sum-none}
 
 -- ---- numbers
 
@@ -206,6 +206,6 @@ module _ {Node : Type 0} (low high : Node → Node) where
       unfolding firstOpen passesAt
       first-shut s d = first-none (2 ^ d) _ (λ j l. rw (open-shut s d j))
 
-      pub last-shut : (s : Node) (d : ℕ) → lastOpen low high thrown test false s d ≡ none
-      unfolding lastOpen passesAt
-      last-shut s d = last-none (2 ^ d) _ (λ j l. rw (open-shut s d j))
+      pub best-shut : (beats : Node → Node → Bool) (s : Node) (d : ℕ) → bestOpen low high thrown test beats false s d ≡ none
+      unfolding bestOpen passesAt
+      best-shut beats s d = best-none _ (2 ^ d) _ (λ j l. rw (open-shut s d j))

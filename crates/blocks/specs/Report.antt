@@ -3,12 +3,12 @@ use Prim.Native.Nat.{ℕ, _*_}
 use mathlib.Core.Bool.{Bool}
 use mathlib.Core.List.{List, _++_}
 use lib.Ieee.{Float}
-use lib.ListN.{length, take, drop, replicate}
+use lib.ListN.{length, replicate}
 use Rattle.float.specs.Arith.{0f}
 use Rattle.limits.specs.List.{upTo}
 use Rattle.geometry.specs.Ray.{rayFloats, rayFrom}
 use Rattle.matrix.specs.Matrix.{identity}
-use Rattle.curve.specs.Layout.{floats}
+use Rattle.curve.specs.Layout.{floats, curveAt}
 use Rattle.create.specs.Create.{mostCurves}
 use Rattle.intersect.specs.Intersect.{intersectOf}
 use Rattle.intersect.specs.declared.Intersection.{Intersection}
@@ -16,10 +16,6 @@ use Rattle.sheet.specs.Sheet.{sheetOf, listOf}
 use Rattle.sheet.specs.declared.Reply.{Reply}
 use Rattle.sheet.specs.declared.Reply.the-variants.{Accepted, Refused}
 use Rattle.report.specs.Printed.{piecesText, answerText, refusedSheetText}
-
--- the curve j of a list
-unfoldable pub curveAt : List Float → ℕ → List Float
-curveAt list j = take floats (drop (j * floats) list)
 
 module _ (rays list : List Float) where
   -- where ray i meets curve j: both matrices are the identity

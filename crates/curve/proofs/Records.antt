@@ -1,17 +1,17 @@
 -- What holds of records as lists of floats. Assumes nothing.
-use Prim.Native.Nat.{_≤_}
+use Prim.Native.Nat.{ℕ, _+_, _-_, _*_, _≤_}
 use mathlib.Core.Path.{_≡_, refl, sym, _∙_}
 use mathlib.Core.Bool.{Bool, true, and-eq-true-iff}
 use mathlib.Core.List.{List}
-use native.Mathlib.Nat.{le-of-eq}
+use native.Mathlib.Nat.{le-of-eq, add-sub-cancel-left}
 use borrow.Author.Tests.{eqb-true}
-use lib.ListN.{length}
+use lib.ListN.{length, take, drop}
 use lib.Ieee.{Float}
 use Rattle.geometry.specs.Point.{pointFrom, pointLerp}
 use Rattle.bezier.specs.Axis.{blossomAt, between}
 use Rattle.bezier.specs.Cubic.{blossomOf}
 use Rattle.bezier.specs.Polygon.{cubicOf}
-use Rattle.curve.specs.Layout.{floats, axisFrom, cubicFrom, curveFrom, curveFloats}
+use Rattle.curve.specs.Layout.{floats, axisFrom, cubicFrom, curveFrom, curveFloats, curveAt}
 use Rattle.curve.specs.Curve.{isCurve, inLimits, controlPoints, coordinateOf}
 use Rattle.curve.specs.declared.curve.Curve.{Curve}
 
@@ -43,3 +43,8 @@ segment-by-axes l = refl
 pub curve-by-axes : (l : List Float) → cubicOf (coordinateOf l 0) (coordinateOf l 1) (coordinateOf l 2) ≡ controlPoints (curveFrom l)
 unfolding cubicOf coordinateOf controlPoints blossomOf pointLerp between blossomAt axisFrom curveFrom cubicFrom pointFrom
 curve-by-axes l = refl
+
+-- the slice that is the curve k of a list
+pub slice-curve : (list : List Float) (k : ℕ) → take (k * floats + floats - k * floats) (drop (k * floats) list) ≡ curveAt list k
+unfolding curveAt
+slice-curve list k = rw (add-sub-cancel-left (k * floats) floats)

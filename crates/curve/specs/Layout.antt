@@ -1,7 +1,7 @@
 -- The layout of a curve's record (01: a piece): which of its floats is what, and how many there are. Definitions only.
-use Prim.Native.Nat.{ℕ, _+_}
+use Prim.Native.Nat.{ℕ, _+_, _*_}
 use mathlib.Core.List.{List, [], _∷_}
-use lib.ListN.{getD}
+use lib.ListN.{getD, take, drop}
 use lib.Ieee.{Float, nan}
 use Rattle.geometry.specs.Point.{pointFrom}
 use Rattle.bezier.specs.declared.axis.Axis.{Axis}
@@ -57,3 +57,7 @@ curveFloats c =
     let p = c .cp in
     p .p0 .x ∷ p .p0 .y ∷ p .p0 .z ∷ p .p1 .x ∷ p .p1 .y ∷ p .p1 .z ∷ p .p2 .x ∷ p .p2 .y ∷ p .p2 .z ∷ p .p3 .x ∷ p .p3 .y ∷ p .p3 .z ∷
     c .width0 ∷ c .width1 ∷ c .umin ∷ c .umax ∷ []
+
+-- the curve k of a list
+unfoldable pub curveAt : List Float → ℕ → List Float
+curveAt list k = take floats (drop (k * floats) list)

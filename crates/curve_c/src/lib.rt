@@ -7,6 +7,7 @@ mod shapes;
 mod sheets;
 
 pub use rays::curve_intersect;
+pub use rays::curve_nearest;
 pub use shapes::curve_area;
 pub use shapes::curve_create;
 pub use shapes::curve_object_bound;

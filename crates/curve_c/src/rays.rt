@@ -9,6 +9,7 @@ use interaction::record_floats;
 use intersect::Intersection;
 use matrix::MATRIX_FLOATS;
 use matrix::matrix_from;
+use nearest::NearestIntersection;
 
 // Answers 0 with a hit and 1 with a miss, or its refusal.
 fn put_met(met: Intersection, record: &mut [f32; RECORD_FLOATS], looked: &mut u32) -> u32
@@ -52,4 +53,41 @@ pub extern "C" fn curve_intersect(
         ray_from(ray, 0),
     );
     put_met(met, record, looked)
+}
+
+// Answers 0 with a hit and 1 with a miss, or its refusal.
+fn put_nearest(
+    met: NearestIntersection,
+    record: &mut [f32; RECORD_FLOATS],
+    piece: &mut usize,
+) -> u32 {
+    match met {
+        NearestIntersection::Hit(h, k) => {
+            *record = record_floats(h);
+            *piece = k;
+            0
+        }
+        NearestIntersection::Miss => 1,
+        NearestIntersection::Refused(number) => number as u32,
+    }
+}
+
+#[no_mangle]
+pub extern "C" fn curve_nearest(
+    list: &[f32],
+    object_to_world: &[f32; MATRIX_FLOATS],
+    world_to_object: &[f32; MATRIX_FLOATS],
+    reverse: u32,
+    ray: &[f32; RAY_FLOATS],
+    record: &mut [f32; RECORD_FLOATS],
+    piece: &mut usize,
+) -> u32 {
+    let met = nearest::nearest(
+        list,
+        matrix_from(object_to_world, 0),
+        matrix_from(world_to_object, 0),
+        0 < reverse,
+        ray_from(ray, 0),
+    );
+    put_nearest(met, record, piece)
 }

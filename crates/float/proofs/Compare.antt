@@ -3,7 +3,7 @@ use mathlib.Core.Path.{_≡_, refl, sym, ap, _∙_, subst}
 use mathlib.Core.Bool.{Bool, true, false, not, _&&_, _||_, cond}
 use Prim.Native.Nat.{_*_}
 use lib.Dec.{T}
-use lib.Ieee.{Float, nan, inf, fin, binary32, up, down, div, ne, level, isNan, ofBits}
+use lib.Ieee.{Float, nan, inf, fin, binary32, up, down, div, eq, ne, level, isNan, ofBits}
 use lib.Ieee.Compare.{differs-from-itself}
 use borrow.Author.Tests.{eq-eqb}
 
@@ -26,6 +26,15 @@ itself (fin s m e) = sym (ap not (same s))
     same : (t : Bool) → level t (m * up e * down e) t (m * up e * down e) ≡ true
     same true = ap (λ (b : Bool). b && true) (eq-eqb (m * up e * down e) (m * up e * down e) refl)
     same false = ap (λ (b : Bool). b && true) (eq-eqb (m * up e * down e) (m * up e * down e) refl)
+
+-- and `x == x` the test for a number
+pub same-is : (x : Float) → eq x x ≡ not (isNan x)
+unfolding ne
+same-is x = sym (ap not (itself x) ∙ twice (eq x x))
+  where
+    twice : (b : Bool) → not (not b) ≡ b
+    twice true = refl
+    twice false = refl
 
 pub not-nan : (x : Float) → ne x x ≡ false → T (not (isNan x))
 not-nan x h = subst (λ (b : Bool). T (not b)) (sym (itself x ∙ h)) tt

@@ -3,6 +3,7 @@ pub mod Compare
 pub mod Constants
 pub mod NanDropped
 pub mod NarrowCorrect
+pub mod Order
 pub mod SqrtCorrect
 mod Closest
 mod Fields

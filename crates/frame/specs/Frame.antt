@@ -24,6 +24,9 @@ use Rattle.transform.specs.Ray.{transformRayError}
 use Rattle.bezier.specs.declared.cubic.Cubic.{Cubic}
 use Rattle.curve.specs.declared.curve.Curve.{Curve}
 use Rattle.curve.specs.Curve.{controlPoints}
+use Rattle.frame.specs.declared.frame.Aim.{Aim}
+use Rattle.frame.specs.declared.frame.Aimed.{Aimed}
+use Rattle.frame.specs.declared.frame.Aimed.the-variants as aimed
 use Rattle.frame.specs.declared.frame.View.{View}
 use Rattle.frame.specs.declared.frame.Pair.{Pair}
 use Rattle.frame.specs.declared.frame.Pair.the-variants as pair
@@ -70,34 +73,52 @@ unfoldable pub projectedCubic : Matrix4x4 → Cubic → Projected
 projectedCubic m cp =
     joinedPairs (pairOf (transformPoint m (cp .p0)) (transformPoint m (cp .p1))) (pairOf (transformPoint m (cp .p2)) (transformPoint m (cp .p3)))
 
--- ---- what a leaf needs of the ray
+-- ---- what is the same for every curve
 
 -- ray_length and zmax
-unfoldable pub viewOf : Ray → Transform → View
-viewOf ray o2r =
+unfoldable pub aimOf : Ray → Aim
+aimOf ray =
     let length = lengthOf (ray .d) in
-    record { d = ray .d; «ray_length» = length; zmax = length ⊗ ray .«t_max»; o2r = o2r }
+    record { ray = ray; «ray_length» = length; zmax = length ⊗ ray .«t_max» }
 
-abbrev pub withCubic : Ray → Transform → Projected → Framed
-withCubic ray o2r (projected.Cubic cp) = framed.Curve ray (viewOf ray o2r) cp
-withCubic ray o2r projected.ZeroWeight = framed.ZeroWeight
+abbrev pub withRay : TransformedRay → Aimed
+withRay (transformed.Ray r) = aimed.Ray (aimOf (r .ray))
+withRay transformed.ZeroWeight = aimed.ZeroWeight
 
-unfoldable pub inRayFrame : Cubic → Ray → Transform → Framed
-inRayFrame cp ray o2r = withCubic ray o2r (projectedCubic (o2r .m) cp)
+-- the ray in the object's frame
+unfoldable pub aimedOf : Matrix4x4 → Ray → Aimed
+aimedOf w2o r = withRay (transformRayError w2o r)
 
-abbrev pub withFrame : Cubic → Ray → LookAt → Framed
-withFrame cp ray (looked.Transform o2r) = inRayFrame cp ray o2r
-withFrame cp ray looked.ZeroLength = framed.ZeroLength
+-- ---- what a leaf needs of the ray
+
+unfoldable pub viewOf : Aim → Transform → View
+viewOf a o2r = record { d = a .ray .d; «ray_length» = a .«ray_length»; zmax = a .zmax; o2r = o2r }
+
+abbrev pub withCubic : Aim → Transform → Projected → Framed
+withCubic a o2r (projected.Cubic cp) = framed.Curve (a .ray) (viewOf a o2r) cp
+withCubic a o2r projected.ZeroWeight = framed.ZeroWeight
+
+unfoldable pub inRayFrame : Cubic → Aim → Transform → Framed
+inRayFrame cp a o2r = withCubic a o2r (projectedCubic (o2r .m) cp)
+
+abbrev pub withFrame : Cubic → Aim → LookAt → Framed
+withFrame cp a (looked.Transform o2r) = inRayFrame cp a o2r
+withFrame cp a looked.ZeroLength = framed.ZeroLength
 
 -- the control points in the frame of a ray of the object's frame
-unfoldable pub aimedAt : Cubic → Ray → Framed
-aimedAt cp ray = withFrame cp ray (rayFrame ray cp)
+unfoldable pub framedPoints : Cubic → Aim → Framed
+framedPoints cp a = withFrame cp a (rayFrame (a .ray) cp)
 
-abbrev pub withRay : Curve → TransformedRay → Framed
-withRay c (transformed.Ray r) = aimedAt (controlPoints c) (r .ray)
-withRay c transformed.ZeroWeight = framed.ZeroWeight
+-- ---- the curve in the ray's frame
 
--- The curve in the ray's frame. A weight of zero and a length of zero are told in the order in which the Rust meets them: the origin's weight,
+unfoldable pub framedAlong : Curve → Aim → Framed
+framedAlong c a = framedPoints (controlPoints c) a
+
+abbrev pub withAim : Curve → Aimed → Framed
+withAim c (aimed.Ray a) = framedAlong c a
+withAim c aimed.ZeroWeight = framed.ZeroWeight
+
+-- A weight of zero and a length of zero are told in the order in which the Rust meets them: the origin's weight,
 -- vec3_coordinate_system, look_at, the control points' weights.
 unfoldable pub framedCurve : Curve → Matrix4x4 → Ray → Framed
-framedCurve c w2o r = withRay c (transformRayError w2o r)
+framedCurve c w2o r = withAim c (aimedOf w2o r)

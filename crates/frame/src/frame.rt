@@ -3,7 +3,7 @@ ghost use mathlib.Core.Path.{_≡_};
 ghost use Prim.Native.Nat.{_≤_};
 ghost use lib.ListN.{length};
 ghost use Rattle.curve.specs.Layout.{floats, curveFrom};
-ghost use Rattle.frame.specs.Frame.{upVector, rayFrame, pairOf, joinedPairs, projectedCubic, viewOf, inRayFrame, aimedAt, framedCurve};
+ghost use Rattle.frame.specs.Frame.{upVector, rayFrame, pairOf, joinedPairs, projectedCubic, aimOf, aimedOf, viewOf, inRayFrame, framedPoints, framedAlong, framedCurve};
 use bezier::Cubic;
 use bezier::cubic_in;
 use curve::control_points;
@@ -29,6 +29,20 @@ pub struct View {
     pub ray_length: f32,
     pub zmax: f32,
     pub o2r: Transform,
+}
+
+// A ray in the object's frame, how long its direction is, and how far it reaches in its own frame: what is the same for
+// every curve.
+pub struct Aim {
+    pub ray: Ray,
+    pub ray_length: f32,
+    pub zmax: f32,
+}
+
+// There is none where the weight of the ray's origin is zero (refusal 12).
+pub enum Aimed {
+    Ray(Aim),
+    ZeroWeight,
 }
 
 // The ray in the object's frame with its view, and the curve's control points in the ray's frame; or why there are none:
@@ -110,46 +124,76 @@ fn project(m: Matrix4x4, cp: Cubic) -> Projected
     join(pair_up(p0, p1), pair_up(p2, p3))
 }
 
-fn view_of(ray: Ray, o2r: Transform) -> View
-    ensures { λ r. ⌜ r ≡ viewOf ray o2r ⌝ }
+fn aim_along(ray: Ray) -> Aim
+    ensures { λ r. ⌜ r ≡ aimOf ray ⌝ }
 {
-    let d = ray.d;
-    let ray_length = d.length();
-    View {
-        d,
+    let ray_length = ray.d.length();
+    Aim {
+        ray,
         ray_length,
         zmax: ray_length * ray.t_max,
+    }
+}
+
+// The ray in the object's frame.
+pub fn aim_ray(world_to_object: Matrix4x4, r: Ray) -> Aimed
+    ensures { λ a. ⌜ a ≡ aimedOf «world_to_object» r ⌝ }
+{
+    match transform_ray_error(world_to_object, r) {
+        TransformedRay::Ray(transformed) => Aimed::Ray(aim_along(transformed.ray)),
+        TransformedRay::ZeroWeight => Aimed::ZeroWeight,
+    }
+}
+
+fn view_of(a: Aim, o2r: Transform) -> View
+    ensures { λ r. ⌜ r ≡ viewOf a o2r ⌝ }
+{
+    let d = a.ray.d;
+    View {
+        d,
+        ray_length: a.ray_length,
+        zmax: a.zmax,
         o2r,
     }
 }
 
 // The control points cp in the frame o2r.
-fn in_ray_frame(cp: Cubic, ray: Ray, o2r: Transform) -> Framed
-    ensures { λ r. ⌜ r ≡ inRayFrame cp ray o2r ⌝ }
+fn in_ray_frame(cp: Cubic, a: Aim, o2r: Transform) -> Framed
+    ensures { λ r. ⌜ r ≡ inRayFrame cp a o2r ⌝ }
 {
     match project(o2r.m, cp) {
-        Projected::Cubic(cp) => Framed::Curve(ray, view_of(ray, o2r), cp),
+        Projected::Cubic(cp) => {
+            let ray = a.ray;
+            Framed::Curve(ray, view_of(a, o2r), cp)
+        }
         Projected::ZeroWeight => Framed::ZeroWeight,
     }
 }
 
 // The control points cp in the frame of a ray of the object's frame.
-fn aim(cp: Cubic, ray: Ray) -> Framed
-    ensures { λ r. ⌜ r ≡ aimedAt cp ray ⌝ }
+fn frame_points(cp: Cubic, a: Aim) -> Framed
+    ensures { λ r. ⌜ r ≡ framedPoints cp a ⌝ }
 {
-    match ray_frame(ray, cp) {
-        LookAt::Transform(o2r) => in_ray_frame(cp, ray, o2r),
+    match ray_frame(a.ray, cp) {
+        LookAt::Transform(o2r) => in_ray_frame(cp, a, o2r),
         LookAt::ZeroLength => Framed::ZeroLength,
     }
 }
 
-// The curve is one that passed refusal 9.
+// The curve, here and below, is one that passed refusal 9.
+pub fn frame_aimed(curve: &[f32], a: Aim) -> Framed
+    requires { ⌜ floats ≤ length (now curve) ⌝ }
+    ensures { λ f. ⌜ f ≡ framedAlong (curveFrom (now (curve .entry))) a ⌝ }
+{
+    frame_points(cubic_in(&control_points(curve)), a)
+}
+
 pub fn frame_curve(curve: &[f32], world_to_object: Matrix4x4, r: Ray) -> Framed
     requires { ⌜ floats ≤ length (now curve) ⌝ }
     ensures { λ f. ⌜ f ≡ framedCurve (curveFrom (now (curve .entry))) «world_to_object» r ⌝ }
 {
-    match transform_ray_error(world_to_object, r) {
-        TransformedRay::Ray(transformed) => aim(cubic_in(&control_points(curve)), transformed.ray),
-        TransformedRay::ZeroWeight => Framed::ZeroWeight,
+    match aim_ray(world_to_object, r) {
+        Aimed::Ray(a) => frame_aimed(curve, a),
+        Aimed::ZeroWeight => Framed::ZeroWeight,
     }
 }

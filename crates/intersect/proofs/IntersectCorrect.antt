@@ -12,7 +12,7 @@ use lib.Pow.{pow-mono}
 use Rattle.geometry.specs.declared.ray.Ray.{Ray}
 use Rattle.matrix.specs.declared.Matrix4x4.{Matrix4x4}
 use Rattle.limits.specs.Refusal.{Table, firstOf}
-use Rattle.limits.specs.Within.{matrixWithin, rayWithin}
+use Rattle.limits.specs.Within.{matrixWithin, rayWithin, rayRefusals}
 use Rattle.limits.proofs.Refusals.{told-refused}
 use Rattle.bezier.specs.declared.cubic.Cubic.{Cubic}
 use Rattle.curve.specs.Curve.{isCurve}
@@ -28,7 +28,7 @@ use Rattle.leaf.specs.Record.{flipsOf}
 use Rattle.intersect.specs.declared.Intersection.the-variants.{Refused}
 use Rattle.intersect.specs.Answer.{metNumber, metCount}
 use Rattle.intersect.specs.Correct.{Decided, framingRefusals, refusals, RefusedBefore, Correct}
-use Rattle.intersect.specs.Intersect.{repliedAt, intersectWhole, intersectFramed, rayRefusals, intersectRefusals, intersectOf}
+use Rattle.intersect.specs.Intersect.{repliedAt, intersectWhole, intersectFramed, intersectRefusals, intersectOf}
 use Rattle.intersect.proofs.ReplySays.{decided}
 
 -- 9, 10 and 11: none applies and those behind them are told, or the first of them is

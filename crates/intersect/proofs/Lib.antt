@@ -1,4 +1,3 @@
 pub mod IntersectCorrect
 pub mod ReplySays
 mod Flat
-mod Steps

@@ -23,13 +23,20 @@ use Rattle.leaf.specs.declared.leaf.Leaf.the-variants.{Passes, Fails, NoFrame}
 use Rattle.leaf.specs.Leaf.{leafOf}
 use Rattle.leaf.specs.Record.{recordOf}
 use Rattle.leaf.proofs.NoFrame.{no-frame}
+use Rattle.walk.specs.Leaves.{subcurveAt, thrown, wholeOpen, openAt, leafAt}
+use Rattle.walk.specs.Rule.{passes, stops}
 use Rattle.interaction.specs.declared.SurfaceInteraction.{SurfaceInteraction}
 use Rattle.intersect.specs.declared.Intersection.{Intersection}
 use Rattle.intersect.specs.declared.Intersection.the-variants.{Hit, Miss, Refused}
-use Rattle.intersect.proofs.Flat.{stop-passes}
 use Rattle.intersect.specs.Answer.{metCount}
 use Rattle.intersect.specs.Correct.{NoneThrown, OpenAnd, NoneIn, FirstIs, LastIs, StopsWith, SomePasses, NonePasses, Decides, openPieces, IsHit, IsMiss, Decided}
-use Rattle.intersect.specs.Intersect.{passes, stops, replyOf, subcurveAt, thrown, wholeOpen, openAt, leafAt, stopOf, lastOf, countOf, repliedAt}
+use Rattle.intersect.specs.Intersect.{replyOf, stopOf, lastOf, countOf, repliedAt}
+
+-- a leaf that stops the walk passes
+stop-passes : (l : Leaf) → stops l ≡ true → passes l ≡ true
+stop-passes (Passes at f) e = refl
+stop-passes Fails e = e
+stop-passes (NoFrame k t) e = refl
 
 -- an open leaf that fails the test
 neither : (a b : Bool) → a && b ≡ false → a ≡ true → b ≡ false

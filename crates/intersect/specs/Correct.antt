@@ -1,5 +1,5 @@
 -- What is right of an answer of `intersect` (01: demand 3), with a field for each of its sentences. Definitions only: `proofs/IntersectCorrect.antt` shows that every answer is.
--- To be read beside `Intersect.antt`: `openAt`, `leafAt`, `stopOf` and `lastOf` say which subcurves are open, what a leaf (01: a sliver) answers, and which leaf decides.
+-- To be read beside `Intersect.antt` and `Leaves.antt` of `walk`: `openAt`, `leafAt`, `stopOf` and `lastOf` say which subcurves are open, what a leaf (01: a sliver) answers, and which leaf decides.
 use mathlib.Core.Bool.{Bool, true, false, _&&_}
 use mathlib.Core.List.{List, [], _∷_, _++_}
 use mathlib.Core.Logic.{_↔_, _⊎_}
@@ -27,11 +27,13 @@ use Rattle.leaf.specs.declared.leaf.Frame.{Frame}
 use Rattle.leaf.specs.declared.leaf.Leaf.{Leaf}
 use Rattle.leaf.specs.declared.leaf.Leaf.the-variants.{Passes, NoFrame}
 use Rattle.leaf.specs.Record.{flipsOf, recordOf}
+use Rattle.walk.specs.Leaves.{subcurveAt, thrown, wholeOpen, openAt, leafAt}
+use Rattle.walk.specs.Rule.{passes, stops}
 use Rattle.interaction.specs.declared.SurfaceInteraction.{SurfaceInteraction}
 use Rattle.intersect.specs.declared.Intersection.{Intersection}
 use Rattle.intersect.specs.declared.Intersection.the-variants.{Hit, Miss, Refused}
 use Rattle.intersect.specs.Answer.{metCount}
-use Rattle.intersect.specs.Intersect.{passes, stops, subcurveAt, thrown, wholeOpen, openAt, leafAt, stopOf, lastOf, intersectRefusals}
+use Rattle.intersect.specs.Intersect.{stopOf, lastOf, intersectRefusals}
 
 -- neither the subcurve j of level k nor any that holds it, the whole included, is thrown out: m levels up it is number j / 2 ^ m that holds it
 abbrev pub NoneThrown : Curve → View → Subcurve → ℕ → ℕ → Type 0

@@ -1,19 +1,17 @@
 -- The reply of `intersect` (01: Beam; Cutting and walking; Hit), by the subcurves and not by the walk. Definitions only.
--- Level k has the subcurves (k, 0) to (k, 2 ^ k - 1): the whole is (0, 0), and (k + 1, j) is a half of (k, j / 2), the half at umin where j is even.
--- The subcurves of level d are the leaves (01: slivers). Which are open, which pass and which is the stop follows from the curve, the view and
--- the whole alone: the ray's time and the flag come in with the record.
-use mathlib.Core.Bool.{Bool, true, false, not, _&&_}
-use mathlib.Core.List.{List, [], _∷_}
+-- Which leaves are open and what each answers stands in `specs/Leaves.antt` of `walk`, which pass and which stop the walk in `specs/Rule.antt` there. It
+-- follows from the curve, the view and the whole alone: the ray's time and the flag come in with the record.
+use mathlib.Core.Bool.{Bool, not}
+use mathlib.Core.List.{List, _∷_}
 use mathlib.Core.Option.{Option}
 use Prim.Native.Nat.{ℕ}
-use lib.Ieee.{Float, eq}
-use Rattle.float.specs.Arith.{0f}
+use lib.Ieee.{Float}
 use Rattle.geometry.specs.declared.ray.Ray.{Ray}
 use Rattle.matrix.specs.declared.Matrix4x4.{Matrix4x4}
 use Rattle.limits.specs.Refusal.{Table, firstOf, told}
-use Rattle.limits.specs.Within.{matrixWithin, rayWithin}
+use Rattle.limits.specs.Within.{rayRefusals}
 use Rattle.bisection.specs.Below.{orElse, atOr}
-use Rattle.bisection.specs.Nodes.{node, isOpen, openUpTo, firstOpen, lastOpen}
+use Rattle.bisection.specs.Nodes.{openUpTo, firstOpen, lastOpen}
 use Rattle.curve.specs.declared.curve.Curve.{Curve}
 use Rattle.curve.specs.Layout.{curveFrom}
 use Rattle.curve.specs.Curve.{isCurve}
@@ -24,62 +22,27 @@ use Rattle.frame.specs.Frame.{framedCurve}
 use Rattle.overlap.specs.declared.subcurve.Subcurve.{Subcurve}
 use Rattle.overlap.specs.Depth.{depthOf}
 use Rattle.overlap.specs.Subcurve.{wholeOf, lowHalf, highHalf}
-use Rattle.overlap.specs.Thrown.{isThrown, isWholeThrown}
 use Rattle.leaf.specs.declared.leaf.Leaf.{Leaf}
 use Rattle.leaf.specs.declared.leaf.Leaf.the-variants.{Passes, Fails, NoFrame}
 use Rattle.leaf.specs.Leaf.{leafOf}
 use Rattle.leaf.specs.Record.{flipsOf, recordOf}
+use Rattle.walk.specs.Leaves.{thrown, wholeOpen, leafAt}
+use Rattle.walk.specs.Rule.{passes, stops}
 use Rattle.intersect.specs.declared.Intersection.{Intersection}
 use Rattle.intersect.specs.declared.Intersection.the-variants.{Hit, Miss, Refused}
 
--- ---- a leaf
+module _ (c : Curve) (v : View) (s : Subcurve) (d : ℕ) where
+  -- the first open leaf that passes with no frame or with distance equal to 0
+  unfoldable pub stopOf : Option ℕ
+  stopOf = firstOpen lowHalf highHalf (thrown c v) (λ p. stops (leafOf c v p)) (wholeOpen c v s) s d
 
--- it passes: none of its tests returns false
-abbrev pub passes : Leaf → Bool
-passes (Passes at f) = true
-passes Fails = false
-passes (NoFrame k t) = true
+  -- the last open leaf that passes
+  unfoldable pub lastOf : Option ℕ
+  lastOf = lastOpen lowHalf highHalf (thrown c v) (λ p. passes (leafOf c v p)) (wholeOpen c v s) s d
 
--- it stops the walk, where it is open: it passes with no frame, or with distance equal to 0
-abbrev pub stops : Leaf → Bool
-stops (Passes at f) = eq (at .t) 0f
-stops Fails = false
-stops (NoFrame k t) = true
-
--- ---- the subcurves, cut d times
-
--- the subcurve j of level k
-unfoldable pub subcurveAt : Subcurve → ℕ → ℕ → Subcurve
-subcurveAt = node lowHalf highHalf
-
-module _ (c : Curve) (v : View) where
-  abbrev pub thrown : Subcurve → Bool
-  thrown = isThrown c (v .zmax)
-
-  module _ (s : Subcurve) where
-    abbrev pub wholeOpen : Bool
-    wholeOpen = not (isWholeThrown c (v .zmax) s)
-
-    -- whether the subcurve j of level k is open: neither it nor any that holds it, the whole included, is thrown out
-    unfoldable pub openAt : ℕ → ℕ → Bool
-    openAt = isOpen lowHalf highHalf thrown wholeOpen s
-
-    module _ (d : ℕ) where
-      -- the answer of the leaf i
-      unfoldable pub leafAt : ℕ → Leaf
-      leafAt i = leafOf c v (subcurveAt s d i)
-
-      -- the first open leaf that passes with no frame or with distance equal to 0
-      unfoldable pub stopOf : Option ℕ
-      stopOf = firstOpen lowHalf highHalf thrown (λ p. stops (leafOf c v p)) wholeOpen s d
-
-      -- the last open leaf that passes
-      unfoldable pub lastOf : Option ℕ
-      lastOf = lastOpen lowHalf highHalf thrown (λ p. passes (leafOf c v p)) wholeOpen s d
-
-      -- how many subcurves of all levels are open and start no later than the stop
-      unfoldable pub countOf : ℕ
-      countOf = openUpTo lowHalf highHalf thrown wholeOpen s d stopOf
+  -- how many subcurves of all levels are open and start no later than the stop
+  unfoldable pub countOf : ℕ
+  countOf = openUpTo lowHalf highHalf (thrown c v) (wholeOpen c v s) s d stopOf
 
 -- ---- the reply
 
@@ -104,10 +67,6 @@ unfoldable pub intersectFramed : Curve → Bool → Framed → Intersection
 intersectFramed c flip (framed.Curve ray v cp) = intersectWhole c ray flip v (wholeOf c cp)
 intersectFramed c flip framed.ZeroWeight = Refused 12
 intersectFramed c flip framed.ZeroLength = Refused 13
-
--- 10, 11
-unfoldable pub rayRefusals : Matrix4x4 → Matrix4x4 → Ray → Table
-rayRefusals o2w w2o r = (not (matrixWithin o2w && matrixWithin w2o), 10) ∷ (not (rayWithin r), 11) ∷ []
 
 -- of a curve within the limits
 unfoldable pub intersectWithin : Curve → Matrix4x4 → Matrix4x4 → Bool → Ray → Intersection

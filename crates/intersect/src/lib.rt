@@ -4,17 +4,12 @@ ghost use mathlib.Core.Path.{_≡_};
 ghost use Prim.Native.Nat.{_≤_};
 ghost use lib.ListN.{length};
 ghost use Rattle.curve.specs.Layout.{floats, curveFrom};
-ghost use Rattle.intersect.specs.Walk.{reached, finished};
-ghost use Rattle.intersect.specs.Intersect.{intersectWhole, intersectFramed, intersectWithin, intersectOf};
-
-mod walk;
-
-use bezier::points_of;
+ghost use Rattle.walk.specs.Walk.{lastIn};
+ghost use Rattle.intersect.specs.Intersect.{replyOf, intersectWhole, intersectFramed, intersectWithin, intersectOf};
 use curve::is_curve;
 use frame::Framed;
 use frame::View;
 use frame::frame_curve;
-use frame::view_floats;
 use geometry::Ray;
 pub use interaction::SurfaceInteraction;
 use leaf::FOUND;
@@ -22,16 +17,13 @@ use leaf::crossing_in;
 use leaf::flips;
 use leaf::frame_in;
 use leaf::record_at;
-use limits::is_matrix_within;
-use limits::is_ray_within;
+use limits::ray_refusal;
 use matrix::Matrix4x4;
 use overlap::Subcurve;
-use overlap::half_width;
-use overlap::is_whole_thrown;
-use overlap::max_depth;
 use overlap::whole;
+use walk::Rule;
 use walk::Walked;
-use walk::recursive_intersect;
+use walk::walk_whole;
 
 // A hit with its record, or a miss, each with the number of subcurves looked at; or a refusal by its
 // number.
@@ -51,7 +43,7 @@ fn finish(
     w: Walked,
 ) -> Intersection
     requires { ⌜ floats ≤ length (now curve) ⌝ }
-    ensures { λ r. ⌜ r ≡ finished (curveFrom (now (curve .entry))) ray flip (reached w (now (found .entry)) n) ⌝ }
+    ensures { λ r. ⌜ r ≡ replyOf (curveFrom (now (curve .entry))) ray flip n (lastIn w (now (found .entry))) ⌝ }
 {
     match w {
         Walked::Hit => {
@@ -67,28 +59,10 @@ fn intersect_whole(curve: &[f32], ray: Ray, flip: bool, v: View, s: Subcurve) ->
     requires { ⌜ floats ≤ length (now curve) ⌝ }
     ensures { λ r. ⌜ r ≡ intersectWhole (curveFrom (now (curve .entry))) ray flip v s ⌝ }
 {
-    let w = half_width(curve, s.u0, s.u1);
-    let points = points_of(s.cp);
-    if is_whole_thrown(w, v.zmax, &points) {
-        Intersection::Miss(0)
-    } else {
-        let cuts = max_depth(curve, s.cp);
-        let fixed = view_floats(v);
-        let mut found = [0.0f32; FOUND];
-        let mut looked = 0u32;
-        let walked = recursive_intersect(
-            curve,
-            &fixed,
-            &points,
-            s.u0,
-            s.u1,
-            cuts,
-            &mut found,
-            &mut looked,
-            Walked::Miss,
-        );
-        finish(curve, ray, flip, &found, looked, walked)
-    }
+    let mut found = [0.0f32; FOUND];
+    let mut looked = 0u32;
+    let walked = walk_whole(curve, v, s, Rule::Last, &mut found, &mut looked);
+    finish(curve, ray, flip, &found, looked, walked)
 }
 
 fn intersect_framed(curve: &[f32], flip: bool, f: Framed) -> Intersection
@@ -112,15 +86,12 @@ fn intersect_within(
     requires { ⌜ floats ≤ length (now curve) ⌝ }
     ensures { λ r. ⌜ r ≡ intersectWithin (curveFrom (now (curve .entry))) «object_to_world» «world_to_object» «reverse_orientation» ray ⌝ }
 {
-    if is_matrix_within(object_to_world) & is_matrix_within(world_to_object) {
-        if is_ray_within(ray) {
-            let flip = flips(reverse_orientation, object_to_world);
-            intersect_framed(curve, flip, frame_curve(curve, world_to_object, ray))
-        } else {
-            Intersection::Refused(11)
-        }
+    let number = ray_refusal(object_to_world, world_to_object, ray);
+    if number == 0 {
+        let flip = flips(reverse_orientation, object_to_world);
+        intersect_framed(curve, flip, frame_curve(curve, world_to_object, ray))
     } else {
-        Intersection::Refused(10)
+        Intersection::Refused(number)
     }
 }
 

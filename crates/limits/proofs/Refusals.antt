@@ -19,3 +19,11 @@ passed false k rest e = (refl, e)
 pub told-refused : {A : Type 0} (refused : ℕ → A) (n : ℕ) (answer : A) → (n ≡ 0 → ⊥) → refused n ≡ told refused n answer
 told-refused refused zero answer h = absurd (h refl)
 told-refused refused (suc n) answer h = refl
+
+-- the returns of a function that asks for the number first
+module _ {A : Type 0} (refused : ℕ → A) (n : ℕ) (t : Table) (asked : n ≡ firstOf t) where
+  pub told-answer : (a b : A) → n ≡ 0 → a ≡ b → a ≡ told refused (firstOf t) b
+  told-answer a b z e = rw (← asked, z) e
+
+  pub told-number : (b : A) → (n ≡ 0 → ⊥) → refused n ≡ told refused (firstOf t) b
+  told-number b f = rw (← asked) (told-refused refused n b f)

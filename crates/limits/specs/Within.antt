@@ -1,11 +1,13 @@
 -- Limits on floats, matrices and rays. Definitions only.
-use mathlib.Core.Bool.{Bool, _&&_}
+use mathlib.Core.Bool.{Bool, not, _&&_}
+use mathlib.Core.List.{[], _∷_}
 use lib.Ieee.{Float, binary32, ofBits, le}
 use Rattle.float.specs.Arith.{0f}
 use Rattle.float.specs.Basic.{absOf}
 use Rattle.geometry.specs.declared.ray.Ray.{Ray}
 use Rattle.matrix.specs.declared.Row.{Row}
 use Rattle.matrix.specs.declared.Matrix4x4.{Matrix4x4}
+use Rattle.limits.specs.Refusal.{Table}
 
 -- 1,048,576
 abbrev pub largest : Float
@@ -32,3 +34,7 @@ rayWithin r =
     within (r .o .x) largest && within (r .o .y) largest && within (r .o .z) largest && within (r .d .x) largest && within (r .d .y) largest && within (r .d .z) largest
     && within (r .time) largest
     && le 0f (r .«t_max»)
+
+-- 10, 11: both matrices, then the ray
+unfoldable pub rayRefusals : Matrix4x4 → Matrix4x4 → Ray → Table
+rayRefusals o2w w2o r = (not (matrixWithin o2w && matrixWithin w2o), 10) ∷ (not (rayWithin r), 11) ∷ []

@@ -1,7 +1,8 @@
 // What several operations ask of what they are given: floats, matrices and rays within limits. The refusals as a table
 // (specs/Refusal) and a list that is written over (specs/List) are definitions alone.
 ghost use mathlib.Core.Path.{_≡_};
-ghost use Rattle.limits.specs.Within.{within, widthWithin, rowWithin, matrixWithin, rayWithin};
+ghost use Rattle.limits.specs.Refusal.{firstOf};
+ghost use Rattle.limits.specs.Within.{within, widthWithin, rowWithin, matrixWithin, rayWithin, rayRefusals};
 use geometry::Ray;
 use matrix::Matrix4x4;
 use matrix::Row;
@@ -39,7 +40,7 @@ pub fn is_matrix_within(m: Matrix4x4) -> bool
 }
 
 // Whether a ray passes refusal 11.
-pub fn is_ray_within(r: Ray) -> bool
+fn is_ray_within(r: Ray) -> bool
     ensures { λ b. ⌜ b ≡ rayWithin r ⌝ }
 {
     is_within(r.o.x, LARGEST)
@@ -50,4 +51,15 @@ pub fn is_ray_within(r: Ray) -> bool
         & is_within(r.d.z, LARGEST)
         & is_within(r.time, LARGEST)
         & (0.0 <= r.t_max)
+}
+
+// 10 or 11 where one applies, else 0.
+pub fn ray_refusal(object_to_world: Matrix4x4, world_to_object: Matrix4x4, ray: Ray) -> u8
+    ensures { λ r. ⌜ r ≡ firstOf (rayRefusals «object_to_world» «world_to_object» ray) ⌝ }
+{
+    if is_matrix_within(object_to_world) & is_matrix_within(world_to_object) {
+        if is_ray_within(ray) { 0 } else { 11 }
+    } else {
+        10
+    }
 }

@@ -3,7 +3,6 @@ use mathlib.Core.Bool.{Bool}
 use mathlib.Core.List.{List}
 use mathlib.Core.Path.{_≡_, ap}
 use Prim.Native.Nat.{ℕ, _+_, _-_, _*_}
-use native.Mathlib.Nat.{add-sub-cancel-left}
 use borrow.Author.Needs.{needs}
 use lib.Ieee.{Float}
 use lib.ListN.{take, drop}
@@ -12,18 +11,19 @@ use Rattle.geometry.specs.declared.ray.Ray.{Ray}
 use Rattle.matrix.specs.Matrix.{identity}
 use Rattle.matrix.specs.declared.Matrix4x4.{Matrix4x4}
 use Rattle.curve.specs.Layout.{floats}
+use Rattle.curve.proofs.Records.{slice-curve}
 use Rattle.intersect.specs.Intersect.{intersectOf}
 use Rattle.intersect.specs.declared.Intersection.{Intersection}
 use Rattle.text.proofs.Puts.{renamed}
 use Rattle.report.specs.Printed.{answerText}
-use Rattle.blocks.specs.Report.{curveAt, metAt}
+use Rattle.blocks.specs.Report.{metAt}
 use Rattle.blocks.proofs.put_met.Statement.{statement}
 use Rattle.blocks.proofs.put_met.Tie as tie
 
 met-is : (rays list : List Float) (i j : ℕ) (reverse : Bool) (o : Matrix4x4) (r : Ray) (met : Intersection) → o ≡ identity → r ≡ rayFrom rays (i * rayFloats)
     → met ≡ intersectOf (take (j * floats + floats - j * floats) (drop (j * floats) list)) o o reverse r → met ≡ metAt rays list reverse i j
-unfolding metAt curveAt
-met-is rays list i j reverse o r met e f g = rw (← e, ← f) (rw (add-sub-cancel-left (j * floats) floats) at g)
+unfolding metAt
+met-is rays list i j reverse o r met e f g = rw (← e, ← f) (rw slice-curve at g)
 
 returns : tie.Need-returns
 returns c =

@@ -6,11 +6,11 @@ use Rattle.frame.proofs.frame.frame_curve.Tie as tie
 
 returns : tie.Need-returns
 unfolding framedCurve
-returns c = rw (← c .before .before .before .before .before .before .before .transform-ray-error .ensures, c .before .before .before .before .before .transformed .given .1, ← c .before .before .before .control-points .ensures, ← c .before .cubic-in .ensures, ← c .aim .ensures)
+returns c = rw (← c .before .before .before .before .aim-ray .ensures, c .before .before .a .given .1, ← c .frame-aimed .ensures)
 
 returns-2 : tie.Need-returns-2
 unfolding framedCurve
-returns-2 c = rw (← c .before .before .transform-ray-error .ensures, c .enum-told .given .1)
+returns-2 c = rw (← c .before .before .aim-ray .ensures, c .enum-told .given .1)
 
 pub frame-curve-spec : {M : Type 1} → statement M
-frame-curve-spec = tie.close (tie.spec (λ c κs. search needs) (λ c. search needs) (λ c κs. search needs) (λ c κs. search needs) (λ c κs. tt) (λ c. search needs) returns returns-2)
+frame-curve-spec = tie.close (tie.spec (λ c κs. tt) (λ c. search needs) (λ c κs. search needs) (λ c. search needs) returns returns-2)

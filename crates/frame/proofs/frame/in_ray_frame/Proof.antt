@@ -6,7 +6,7 @@ use Rattle.frame.proofs.frame.in_ray_frame.Tie as tie
 
 returns : tie.Need-returns
 unfolding inRayFrame
-returns c = rw (← c .before .before .before .before .project .ensures, c .before .before .cp .given .1, ← c .view-of .ensures)
+returns c = rw (← c .before .before .before .before .before .project .ensures, c .before .before .before .cp .given .1, ← c .view-of .ensures)
 
 returns-2 : tie.Need-returns-2
 unfolding inRayFrame

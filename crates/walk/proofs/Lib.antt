@@ -1,0 +1,3 @@
+pub mod Rules
+mod Flat
+mod Steps

@@ -1,0 +1,4 @@
+pub mod Leaves
+pub mod Rule
+pub mod Steps
+pub mod Walk
