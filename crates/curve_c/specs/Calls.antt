@@ -14,6 +14,9 @@ use Rattle.measure.specs.declared.bound.Bound.{Bound}
 use Rattle.measure.specs.declared.areas.Measured.{Measured}
 use Rattle.intersect.specs.Answer.{metRecord, metCount}
 use Rattle.intersect.specs.declared.Intersection.{Intersection}
+use Rattle.nearest.specs.Answer.{nearestRecord, nearestPiece}
+use Rattle.nearest.specs.Nearest.{nearestOf}
+use Rattle.nearest.specs.declared.NearestIntersection.{NearestIntersection}
 use Rattle.sheet.specs.Answer.{replyLine, replyCounts}
 use Rattle.sheet.specs.declared.Reply.{Reply}
 use Rattle.matrix.specs.Matrix.{matrixFrom}
@@ -53,6 +56,17 @@ recordAfter a = written recordFloats (metRecord a)
 
 abbrev pub lookedAfter : Intersection → ℕ → ℕ
 lookedAfter a = written (λ n. n) (metCount a)
+
+-- ---- curve_nearest
+
+unfoldable pub nearestBy : List Float → List Float → List Float → ℕ → List Float → NearestIntersection
+nearestBy list o2w w2o reverse ray = nearestOf list (matrixFrom o2w 0) (matrixFrom w2o 0) (ltb 0 reverse) (rayFrom ray 0)
+
+abbrev pub nearestAfter : NearestIntersection → List Float → List Float
+nearestAfter a = written recordFloats (nearestRecord a)
+
+abbrev pub pieceAfter : NearestIntersection → ℕ → ℕ
+pieceAfter a = written (λ k. k) (nearestPiece a)
 
 -- ---- curve_sheet
 

@@ -1,7 +1,8 @@
-// Where a ray meets a curve.
+// Where a ray meets a curve, and where it first meets a list of them.
 ghost use mathlib.Core.Path.{_≡_};
 ghost use Rattle.intersect.specs.Answer.{metNumber};
-ghost use Rattle.curve_c.specs.Calls.{metBy, recordAfter, lookedAfter};
+ghost use Rattle.nearest.specs.Answer.{nearestNumber};
+ghost use Rattle.curve_c.specs.Calls.{metBy, recordAfter, lookedAfter, nearestBy, nearestAfter, pieceAfter};
 use geometry::RAY_FLOATS;
 use geometry::ray_from;
 use interaction::RECORD_FLOATS;
@@ -60,7 +61,11 @@ fn put_nearest(
     met: NearestIntersection,
     record: &mut [f32; RECORD_FLOATS],
     piece: &mut usize,
-) -> u32 {
+) -> u32
+    ensures { λ r. ⌜ r ≡ nearestNumber met ⌝ }
+    ensures { λ _. ⌜ now («record» .exit) ≡ nearestAfter met (now («record» .entry)) ⌝ }
+    ensures { λ _. ⌜ now (piece .exit) ≡ pieceAfter met (now (piece .entry)) ⌝ }
+{
     match met {
         NearestIntersection::Hit(h, k) => {
             *record = record_floats(h);
@@ -81,7 +86,11 @@ pub extern "C" fn curve_nearest(
     ray: &[f32; RAY_FLOATS],
     record: &mut [f32; RECORD_FLOATS],
     piece: &mut usize,
-) -> u32 {
+) -> u32
+    ensures { λ r. ⌜ r ≡ nearestNumber (nearestBy (now (list .entry)) (now («object_to_world» .entry)) (now («world_to_object» .entry)) reverse (now (ray .entry))) ⌝ }
+    ensures { λ _. ⌜ now («record» .exit) ≡ nearestAfter (nearestBy (now (list .entry)) (now («object_to_world» .entry)) (now («world_to_object» .entry)) reverse (now (ray .entry))) (now («record» .entry)) ⌝ }
+    ensures { λ _. ⌜ now (piece .exit) ≡ pieceAfter (nearestBy (now (list .entry)) (now («object_to_world» .entry)) (now («world_to_object» .entry)) reverse (now (ray .entry))) (now (piece .entry)) ⌝ }
+{
     let met = nearest::nearest(
         list,
         matrix_from(object_to_world, 0),
