@@ -210,7 +210,7 @@ abbrev pub IsIn : ℕ → (ℕ → Bool) → Option ℕ → Type 0
 IsIn n P none = Unit {0}
 IsIn n P (some i) = (i < n) × (P i ≡ true)
 
-cases : (j i : ℕ) → (j ≡ i) ⊎ ((j < i) ⊎ (i < j))
+pub cases : (j i : ℕ) → (j ≡ i) ⊎ ((j < i) ⊎ (i < j))
 cases j i = go (leb j i) refl
   where
     go : (t : Bool) → leb j i ≡ t → (j ≡ i) ⊎ ((j < i) ⊎ (i < j))

@@ -107,7 +107,7 @@ not-lt-trans (fin s m e) (inf false) (fin u p f) n h k = absurd (true≢false h)
 not-lt-trans (fin s m e) (fin t l d) (inf u) n h k = k
 not-lt-trans (fin s m e) (fin t l d) (fin u p f) n h k = not-below-trans (m * up e) (l * up d) (p * up f) (down e) (down d) (down f) (down-pos e) (down-pos d) (down-pos f) s t u h k
 
-lt-itself : (x : Float) → lt x x ≡ false
+pub lt-itself : (x : Float) → lt x x ≡ false
 unfolding lt
 lt-itself nan = refl
 lt-itself (inf true) = refl

@@ -1,2 +1,5 @@
 pub mod Among
+pub mod NearestCorrect
+mod FirstRefusal
 mod Keeping
+mod LeafSays

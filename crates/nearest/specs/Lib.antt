@@ -1,3 +1,4 @@
 pub mod Answer
+pub mod Correct
 pub mod Kept
 pub mod Nearest
