@@ -1,7 +1,7 @@
 //! The kind `intersect`: what the Rust answers to a beam, checked by the flat reading of 01.
 
 use crate::flat;
-use crate::inputs::Matrix;
+use crate::inputs::{identity, Matrix};
 use crate::layout::RAY_FLOATS;
 use crate::limits;
 use crate::panics::{self, Site};
@@ -15,12 +15,18 @@ use pbrt::core::interaction::SurfaceInteraction;
 use pbrt::core::shape::{Shape, Shapes};
 use pbrt::core::transform::{Matrix4x4, Transform};
 use pbrt::progress::{self, Phase};
-use pbrt::shapes::curve::refinement_level;
+use pbrt::shapes::curve::{refinement_level, Curve};
 use std::panic::{catch_unwind, AssertUnwindSafe};
 use std::sync::Arc;
 
 pub struct Beam {
     pub piece: Piece,
+    pub cast: Cast,
+}
+
+/// What a beam is but for its piece.
+#[derive(Clone, Copy)]
+pub struct Cast {
     pub object_to_world: Matrix,
     pub world_to_object: Matrix,
     pub reverse: bool,
@@ -38,6 +44,47 @@ impl Beam {
     pub fn read(line: &mut Reader) -> Beam {
         Beam {
             piece: line.floats(),
+            cast: Cast::read(line),
+        }
+    }
+
+    pub fn put(&self, words: &mut Words) {
+        put(words, &self.piece);
+        self.cast.put(words);
+    }
+
+    fn limits(&self) -> Result<(), u32> {
+        limits::piece(&self.piece)?;
+        self.cast.limits()
+    }
+
+    /// The Rust's curve.
+    pub fn curve(&self) -> Curve {
+        let Cast {
+            object_to_world,
+            world_to_object,
+            reverse,
+            ..
+        } = &self.cast;
+        let transforms = [object_to_world, world_to_object].map(|m| Arc::new(transform(m)));
+
+        piece::to_curve(&self.piece, transforms, *reverse)
+    }
+}
+
+impl Cast {
+    /// Both matrices the identity.
+    pub fn plain(reverse: bool, ray: [f32; RAY_FLOATS]) -> Cast {
+        Cast {
+            object_to_world: identity(),
+            world_to_object: identity(),
+            reverse,
+            ray,
+        }
+    }
+
+    pub fn read(line: &mut Reader) -> Cast {
+        Cast {
             object_to_world: line.floats(),
             world_to_object: line.floats(),
             reverse: line.word() == 1,
@@ -46,7 +93,6 @@ impl Beam {
     }
 
     pub fn put(&self, words: &mut Words) {
-        put(words, &self.piece);
         put(words, &self.object_to_world);
         put(words, &self.world_to_object);
         words.push(self.reverse as u32);
@@ -61,8 +107,7 @@ impl Beam {
         Ray::new(&o, &d, t_max, time, None, None)
     }
 
-    fn limits(&self) -> Result<(), u32> {
-        limits::piece(&self.piece)?;
+    pub fn limits(&self) -> Result<(), u32> {
         limits::matrix(&transform(&self.object_to_world).m)?;
         limits::matrix(&transform(&self.world_to_object).m)?;
         limits::ray(&self.ray)
@@ -119,21 +164,27 @@ pub fn checked(line: &[u32]) -> (Reply, Option<flat::Reading>) {
 }
 
 fn intersect(beam: &Beam) -> Reply {
-    let transforms = [&beam.object_to_world, &beam.world_to_object].map(|m| Arc::new(transform(m)));
-    let curve = piece::to_curve(&beam.piece, transforms, beam.reverse);
-    let shape = Arc::new(Shapes::from(curve));
+    let shape = Arc::new(Shapes::from(beam.curve()));
+    let hit = call(shape.as_ref(), &beam.cast, shape.clone());
+    let looked = progress::looked() as u32;
+    match hit {
+        Ok(Some(record)) => Reply::Hit(looked, record),
+        Ok(None) => Reply::Miss(looked),
+        Err(refusal) => Reply::Refused(refusal),
+    }
+}
+
+/// What the Rust's `intersect` leaves of a hit, or 12 to 16.
+pub fn call(curve: &impl Shape, cast: &Cast, s: Arc<Shapes>) -> Result<Option<Record>, u32> {
     // The caller's old distance plays no part: of all distances zero might.
     let mut t_hit = 0.0;
     let mut isect = SurfaceInteraction::default();
     let hit = catch_unwind(AssertUnwindSafe(|| {
-        let s = Some(shape.clone());
-        shape.intersect(&beam.ray(), &mut t_hit, &mut isect, false, s)
+        curve.intersect(&cast.ray(), &mut t_hit, &mut isect, false, Some(s))
     }));
-    let looked = progress::looked() as u32;
     match hit {
-        Ok(true) => Reply::Hit(looked, record(t_hit, &isect)),
-        Ok(false) => Reply::Miss(looked),
-        Err(_) => Reply::Refused(refusal()),
+        Ok(hit) => Ok(hit.then(|| record(t_hit, &isect))),
+        Err(_) => Err(refusal()),
     }
 }
 

@@ -1,7 +1,7 @@
 //! The inputs of `intersect`: most beams are aimed at a point of the belt, some are built for one branch
 //! or one refusal, a few are left to chance.
 
-use crate::beam::{transform, Beam, Reply};
+use crate::beam::{transform, Beam, Cast, Reply};
 use crate::cubic;
 use crate::curve_inputs::{parameters, spoil_piece, valid_piece, ENTRY, PIECE};
 use crate::flat;
@@ -52,11 +52,11 @@ pub fn without_matrices(rng: &mut Rng) -> Beam {
         no_direction,
     ]);
 
-    Beam {
-        object_to_world: identity(),
-        world_to_object: identity(),
-        ..make(rng)
-    }
+    let mut beam = make(rng);
+    beam.cast.object_to_world = identity();
+    beam.cast.world_to_object = identity();
+
+    beam
 }
 
 // The belt.
@@ -234,7 +234,7 @@ fn aimed(rng: &mut Rng) -> Beam {
     let piece = belt(rng);
     let aim = aim(rng, &piece);
     let mut beam = placed(rng, piece, aim.origin, aim.direction);
-    beam.ray[RAY_T_MAX] = t_max(rng, &aim);
+    beam.cast.ray[RAY_T_MAX] = t_max(rng, &aim);
 
     beam
 }
@@ -352,10 +352,12 @@ fn placed(rng: &mut Rng, piece: Piece, origin: Vector, direction: Vector) -> Bea
 
     Beam {
         piece,
-        object_to_world: object_to_world(rng, &world_to_object),
-        world_to_object,
-        reverse: rng.one_in(2),
-        ray: [ox, oy, oz, dx, dy, dz, f32::INFINITY, time],
+        cast: Cast {
+            object_to_world: object_to_world(rng, &world_to_object),
+            world_to_object,
+            reverse: rng.one_in(2),
+            ray: [ox, oy, oz, dx, dy, dz, f32::INFINITY, time],
+        },
     }
 }
 
@@ -462,10 +464,12 @@ fn plain(rng: &mut Rng, piece: Piece, origin: Triple, direction: Triple) -> Beam
 
     Beam {
         piece,
-        object_to_world,
-        world_to_object: identity(),
-        reverse: rng.one_in(2),
-        ray: [ox, oy, oz, dx, dy, dz, f32::INFINITY, rng.moderate()],
+        cast: Cast {
+            object_to_world,
+            world_to_object: identity(),
+            reverse: rng.one_in(2),
+            ray: [ox, oy, oz, dx, dy, dz, f32::INFINITY, rng.moderate()],
+        },
     }
 }
 
@@ -501,12 +505,12 @@ fn at_origin(rng: &mut Rng) -> Beam {
     };
     let mut beam = plain(rng, piece, origin, along.map(|x| x * speed));
     let shift = rng.pick(&[0.0, -0.0, -0.0, 1.0]) * rng.below(8) as f32;
-    (0..3).for_each(|i| beam.world_to_object[4 * i + 3] = shift);
+    (0..3).for_each(|i| beam.cast.world_to_object[4 * i + 3] = shift);
     // Where the beam begins is moved by the error of its origin.
     let mut errors = [Vector3f::default(); 2];
     let [o_error, d_error] = &mut errors;
-    let begin = transform(&beam.world_to_object)
-        .transform_ray_error(&beam.ray(), o_error, d_error)
+    let begin = transform(&beam.cast.world_to_object)
+        .transform_ray_error(&beam.cast.ray(), o_error, d_error)
         .o;
     let begin = [begin.x, begin.y, begin.z];
     let place = place(rng, &piece);
@@ -531,7 +535,7 @@ fn at_origin(rng: &mut Rng) -> Beam {
     }
     beam.piece = held(piece);
     if rng.one_in(8) {
-        beam.ray[RAY_T_MAX] = rng.zero();
+        beam.cast.ray[RAY_T_MAX] = rng.zero();
     }
 
     beam
@@ -654,12 +658,12 @@ fn no_direction(rng: &mut Rng) -> Beam {
             axis(rng).map(|x| x * pow2(-rng.between(70, 80)))
         }
         _ => {
-            let origin = beam.ray[RAY_O].iter_mut();
+            let origin = beam.cast.ray[RAY_O].iter_mut();
             origin.for_each(|x| *x = rng.signed(ENTRY) * rng.unit());
             unit(rng).map(|x| x * pow2(-rng.between(2, 20)))
         }
     };
-    beam.ray[RAY_D].copy_from_slice(&direction);
+    beam.cast.ray[RAY_D].copy_from_slice(&direction);
 
     beam
 }
@@ -672,7 +676,7 @@ fn weightless(rng: &mut Rng) -> Beam {
         1 => axis(rng),
         _ => rng.integers(3),
     };
-    let o = &beam.ray[RAY_O];
+    let o = &beam.cast.ray[RAY_O];
     let sum = o[0] * row[0] + o[1] * row[1] + o[2] * row[2];
     let last = match rng.below(6) {
         0 => neighbour(-sum, rng.between(-1, 1)),
@@ -683,7 +687,7 @@ fn weightless(rng: &mut Rng) -> Beam {
     } else {
         rng.zeros()
     };
-    beam.world_to_object[LAST_ROW..].copy_from_slice(&row);
+    beam.cast.world_to_object[LAST_ROW..].copy_from_slice(&row);
 
     beam
 }
@@ -699,7 +703,7 @@ fn far_origin(rng: &mut Rng) -> Beam {
     *rng.one_of(&mut origin) = rng.signed(ENTRY) * rng.pick(&[1.0, 0.75, 0.5, 1.0e-3]);
     let direction = unit(rng);
     let mut beam = plain(rng, held(piece), origin, direction);
-    beam.world_to_object[LAST_ROW + 3] = if rng.one_in(4) {
+    beam.cast.world_to_object[LAST_ROW + 3] = if rng.one_in(4) {
         rng.subnormal()
     } else {
         pow2(-rng.between(100, 109)) * rng.signed(1.0)
@@ -718,8 +722,8 @@ fn no_frame(rng: &mut Rng) -> Beam {
         let chord = [-signs[1], signs[0], 0.0];
         for i in 0..3 {
             let sign = rng.signed(1.0);
-            (0..3).for_each(|k| beam.world_to_object[4 * i + k] = sign * signs[k] * ENTRY);
-            beam.ray[RAY_D][i] = signs[i] * ENTRY;
+            (0..3).for_each(|k| beam.cast.world_to_object[4 * i + k] = sign * signs[k] * ENTRY);
+            beam.cast.ray[RAY_D][i] = signs[i] * ENTRY;
         }
         let ahead = rng.pick(&[0.0, 1.0, 1000.0, PIECE.coordinate]);
         let bend = unit(rng).map(|x| x * pow2(rng.between(0, 18)));
@@ -732,10 +736,10 @@ fn no_frame(rng: &mut Rng) -> Beam {
         let (lost, kept) = rng.pick(&[(0, 1), (0, 2), (1, 2), (1, 0), (2, 0), (2, 1)]);
         let level = points[0][kept];
         points.iter_mut().for_each(|p| p[kept] = level);
-        beam.ray[RAY_O][lost] = ENTRY;
-        beam.ray[RAY_D][lost] = pow2(-5);
-        beam.ray[RAY_D][kept] = pow2(-rng.between(80, 85));
-        (0..3).for_each(|i| beam.world_to_object[5 * i] = pow2(10));
+        beam.cast.ray[RAY_O][lost] = ENTRY;
+        beam.cast.ray[RAY_D][lost] = pow2(-5);
+        beam.cast.ray[RAY_D][kept] = pow2(-rng.between(80, 85));
+        (0..3).for_each(|i| beam.cast.world_to_object[5 * i] = pow2(10));
 
         points
     };
@@ -754,10 +758,12 @@ fn any(rng: &mut Rng) -> Beam {
 
     Beam {
         piece,
-        object_to_world: object_to_world(rng, &world_to_object),
-        world_to_object,
-        reverse: rng.one_in(2),
-        ray,
+        cast: Cast {
+            object_to_world: object_to_world(rng, &world_to_object),
+            world_to_object,
+            reverse: rng.one_in(2),
+            ray,
+        },
     }
 }
 
@@ -766,7 +772,7 @@ pub fn end_at_hit(rng: &mut Rng, beam: &mut Beam) {
     if let Reply::Hit(_, record) = flat::read(beam).reply {
         let t = record[RECORD_T];
         if t > 0.0 && t.is_finite() {
-            beam.ray[RAY_T_MAX] = neighbour(t, rng.between(-1, 1));
+            beam.cast.ray[RAY_T_MAX] = neighbour(t, rng.between(-1, 1));
         }
     }
 }
@@ -782,13 +788,13 @@ fn spoil(rng: &mut Rng, beam: &mut Beam) {
     };
     match rng.below(8) {
         0 | 1 => spoil_piece(rng, &mut beam.piece),
-        2 => *rng.one_of(&mut beam.object_to_world) = number,
-        3 => *rng.one_of(&mut beam.world_to_object) = number,
+        2 => *rng.one_of(&mut beam.cast.object_to_world) = number,
+        3 => *rng.one_of(&mut beam.cast.world_to_object) = number,
         4 => {
             let wrong = [-pow2(-149), -1.0, f32::NEG_INFINITY, f32::NAN, -0.0];
-            beam.ray[RAY_T_MAX] = rng.pick(&wrong);
+            beam.cast.ray[RAY_T_MAX] = rng.pick(&wrong);
         }
-        _ => *rng.one_of(&mut beam.ray) = number,
+        _ => *rng.one_of(&mut beam.cast.ray) = number,
     }
 }
 

@@ -98,8 +98,8 @@ pub fn read(beam: &Beam) -> Reading {
 
 /// 12 and 13 in the order of the Rust.
 fn frame(beam: &Beam) -> Result<Framed, u32> {
-    let world_to_object = transform(&beam.world_to_object);
-    let ray = beam.ray();
+    let world_to_object = transform(&beam.cast.world_to_object);
+    let ray = beam.cast.ray();
     weight(&world_to_object.m, &ray.o)?;
     let mut errors = [Vector3f::default(); 2];
     let [o_error, d_error] = &mut errors;
@@ -310,7 +310,7 @@ fn record(beam: &Beam, framed: &Framed, t: f32, u: f32, v: f32, width: f32) -> R
     let across = unit([-y, x, 0.0], 15)?.map(|x| x * width);
     let dpdv = turned(&framed.to_ray.m_inv, across);
     let mut n = unit(cross(dpdu, dpdv), 16)?;
-    if beam.reverse != transform(&beam.object_to_world).swaps_handedness() {
+    if beam.cast.reverse != transform(&beam.cast.object_to_world).swaps_handedness() {
         n = n.map(|x| -x);
     }
     let Ray { o, d, time, .. } = &framed.ray;

@@ -1,8 +1,7 @@
 //! A belt sheet as 01 has it, and what `beltbeam` prints for it. The grammar is read here once more,
 //! independently of the library's reader: the sheet is split into lines, and each line into its values.
 
-use crate::beam::{self, Beam, Reply};
-use crate::inputs::identity;
+use crate::beam::{self, Beam, Cast, Reply};
 use crate::kinds;
 use crate::layout::{
     CURVE_FLOATS, MOST_BEAMS, MOST_CURVES, RAY_FLOATS, RECORD_T, RECORD_U, RECORD_V,
@@ -61,10 +60,7 @@ fn answer(piece: &Piece, reverse: bool, ray: &[f32; RAY_FLOATS]) -> String {
     let mut line = Words::new();
     let beam = Beam {
         piece: *piece,
-        object_to_world: identity(),
-        world_to_object: identity(),
-        reverse,
-        ray: *ray,
+        cast: Cast::plain(reverse, *ray),
     };
     beam.put(&mut line);
     match beam::checked(&line).0 {

@@ -1,10 +1,10 @@
 //! Belt sheets: right ones, ones that laying refuses, damaged ones, ones cut short, long ones, and bytes
 //! that are no sheet at all.
 
-use crate::beam::Beam;
+use crate::beam::{Beam, Cast};
 use crate::beam_inputs::{end_at_hit, ray_at, shape, without_matrices};
 use crate::curve_inputs::{self, points_of, widths, ENTRY, LAID};
-use crate::inputs::{identity, Triple};
+use crate::inputs::Triple;
 use crate::kinds;
 use crate::layout::{MOST_BEAMS, POINTS, RAY_D, RAY_FLOATS, RAY_O, RAY_T_MAX, WIDTH0, WIDTH1};
 use crate::limits::ShapeParams;
@@ -157,8 +157,8 @@ fn for_a_branch(rng: &mut Rng) -> Sheet {
             list_len: LIST_LEN,
             floats: points.collect(),
         },
-        reverse: beam.reverse,
-        beams: vec![beam.ray],
+        reverse: beam.cast.reverse,
+        beams: vec![beam.cast.ray],
     }
 }
 
@@ -266,13 +266,10 @@ fn ray(rng: &mut Rng, pieces: &[Piece], reverse: bool) -> [f32; RAY_FLOATS] {
         8 | 9 => {
             let mut beam = Beam {
                 piece,
-                object_to_world: identity(),
-                world_to_object: identity(),
-                reverse,
-                ray,
+                cast: Cast::plain(reverse, ray),
             };
             end_at_hit(rng, &mut beam);
-            ray = beam.ray;
+            ray = beam.cast.ray;
         }
         _ => {}
     }
