@@ -284,4 +284,48 @@ pub mod shapes {
             (common.cpobj, common.width, [curve.umin, curve.umax])
         }
     }
+
+    pub mod nearest {
+        // Supplied, and changed by the build in three lines (oracle/changed). What follows it is ours.
+        include!("nearest/shapes/curve.rs");
+
+        use std::cell::Cell;
+
+        pub type Tap = fn(Float, &SurfaceInteraction);
+
+        thread_local! {
+            static TAP: Cell<Tap> = const { Cell::new(|_, _| ()) };
+        }
+
+        /// Each record that the walk writes is shown to it, with its distance.
+        pub fn set_tap(tap: Tap) {
+            TAP.set(tap);
+        }
+
+        fn tap(t: Float, isect: &SurfaceInteraction) {
+            TAP.get()(t, isect);
+        }
+
+        /// A flat curve, to be walked with the changes.
+        pub fn changed(curve: &super::curve::Curve) -> Curve {
+            let (points, [width0, width1], [umin, umax]) = super::curve::parts(curve);
+            let common = CurveCommon::new(points, width0, width1, CurveType::Flat, None);
+
+            Curve::new(
+                curve.object_to_world.clone(),
+                curve.world_to_object.clone(),
+                curve.reverse_orientation,
+                Arc::new(common),
+                umin,
+                umax,
+            )
+        }
+
+        /// `create_curve` asks for it.
+        impl From<Curve> for Shapes {
+            fn from(_: Curve) -> Shapes {
+                unimplemented!("no curve is laid with the changes")
+            }
+        }
+    }
 }

@@ -4,7 +4,7 @@
 use crate::beam::{transform, Beam, Cast, Reply};
 use crate::cubic;
 use crate::curve_inputs::{parameters, spoil_piece, valid_piece, ENTRY, PIECE};
-use crate::flat;
+use crate::flat::{self, in_object};
 use crate::inputs::{identity, matrix, permutation, placement, Matrix, Triple, LAST_ROW};
 use crate::layout::{
     CURVE_FLOATS, POINTS, RAY_D, RAY_FLOATS, RAY_O, RAY_T_MAX, RECORD_T, UMAX, UMIN, WIDTH0, WIDTH1,
@@ -13,11 +13,22 @@ use crate::piece::{self, Piece};
 use crate::rng::{neighbour, pow2, Rng};
 use crate::vector::{cross, normal, scaled, Vector};
 use crate::words::Words;
-use pbrt::core::geometry::vector::Vector3f;
 use pbrt::core::transform::Matrix4x4;
 
 pub fn intersect(rng: &mut Rng, words: &mut Words) {
-    let mut beam = match rng.below(100) {
+    let mut beam = beam(rng);
+    if rng.one_in(12) {
+        end_at_hit(rng, &mut beam);
+    }
+    if rng.one_in(16) {
+        spoil(rng, &mut beam.piece, &mut beam.cast);
+    }
+    beam.put(words);
+}
+
+/// Within 01's limits.
+pub fn beam(rng: &mut Rng) -> Beam {
+    match rng.below(100) {
         0..=73 => aimed(rng),
         74..=78 => at_origin(rng),
         79..=81 => at_turning_point(rng),
@@ -29,15 +40,7 @@ pub fn intersect(rng: &mut Rng, words: &mut Words) {
         94 => far_origin(rng),
         95 | 96 => no_frame(rng),
         _ => any(rng),
-    };
-    if rng.one_in(12) {
-        end_at_hit(rng, &mut beam);
     }
-    if rng.one_in(16) {
-        let faults = rng.pick(&[1, 1, 1, 1, 1, 1, 3]);
-        (0..faults).for_each(|_| spoil(rng, &mut beam));
-    }
-    beam.put(words);
 }
 
 /// One for a branch or a refusal that needs no matrix but the identity.
@@ -61,7 +64,7 @@ pub fn without_matrices(rng: &mut Rng) -> Beam {
 
 // The belt.
 
-fn belt(rng: &mut Rng) -> Piece {
+pub fn belt(rng: &mut Rng) -> Piece {
     if rng.one_in(12) {
         return valid_piece(rng);
     }
@@ -137,7 +140,7 @@ pub fn shape(rng: &mut Rng) -> [Triple; 4] {
 }
 
 /// Crosses its middle three times.
-fn to_and_fro(along: Triple, drift: Triple) -> [Triple; 4] {
+pub fn to_and_fro(along: Triple, drift: Triple) -> [Triple; 4] {
     [(-1.0, -1.5), (3.0, -0.5), (-3.0, 0.5), (1.0, 1.5)]
         .map(|(a, b)| std::array::from_fn(|k| a * along[k] + b * drift[k]))
 }
@@ -157,20 +160,20 @@ fn repeated(rng: &mut Rng) -> [Triple; 4] {
     }
 }
 
-fn unit(rng: &mut Rng) -> Triple {
+pub fn unit(rng: &mut Rng) -> Triple {
     std::array::from_fn(|_| rng.unit())
 }
 
-fn triple(coordinate: impl Fn(usize) -> f32) -> Triple {
+pub fn triple(coordinate: impl Fn(usize) -> f32) -> Triple {
     std::array::from_fn(coordinate)
 }
 
-fn points_mut(piece: &mut Piece) -> &mut [Triple] {
+pub fn points_mut(piece: &mut Piece) -> &mut [Triple] {
     piece[POINTS].as_chunks_mut().0
 }
 
 /// Within 01's limits of a piece.
-fn held(mut piece: Piece) -> Piece {
+pub fn held(mut piece: Piece) -> Piece {
     for x in &mut piece[POINTS] {
         *x = x.clamp(-PIECE.coordinate, PIECE.coordinate);
     }
@@ -181,7 +184,7 @@ fn held(mut piece: Piece) -> Piece {
     piece
 }
 
-fn moved(mut piece: Piece, by: Triple) -> Piece {
+pub fn moved(mut piece: Piece, by: Triple) -> Piece {
     for p in points_mut(&mut piece) {
         *p = triple(|k| p[k] + by[k]);
     }
@@ -190,13 +193,13 @@ fn moved(mut piece: Piece, by: Triple) -> Piece {
 }
 
 /// A point of the belt, with the tangent and half the width there.
-struct Place {
-    point: Vector,
-    tangent: Vector,
-    half: f64,
+pub struct Place {
+    pub point: Vector,
+    pub tangent: Vector,
+    pub half: f64,
 }
 
-fn place(rng: &mut Rng, piece: &Piece) -> Place {
+pub fn place(rng: &mut Rng, piece: &Piece) -> Place {
     let [umin, umax] = [piece[UMIN], piece[UMAX]].map(f64::from);
     let u = umin
         + (umax - umin)
@@ -216,7 +219,7 @@ fn place(rng: &mut Rng, piece: &Piece) -> Place {
 }
 
 /// How far beside the middle of the belt, in halves of its width: at its edge, past it, mostly on it.
-fn beside(rng: &mut Rng) -> f64 {
+pub fn beside(rng: &mut Rng) -> f64 {
     let x = rng.unit() as f64;
     match rng.below(32) {
         0 | 1 => 0.0,
@@ -328,7 +331,7 @@ fn direction(rng: &mut Rng, piece: &Piece, place: &Place) -> Vector {
     }
 }
 
-fn axis(rng: &mut Rng) -> Triple {
+pub fn axis(rng: &mut Rng) -> Triple {
     let mut v = [0.0; 3];
     *rng.one_of(&mut v) = rng.signed(1.0);
 
@@ -454,7 +457,7 @@ fn limited(rng: &mut Rng, x: f32) -> f32 {
 // Beams for one branch or one refusal.
 
 /// A beam through matrices that keep numbers as they are.
-fn plain(rng: &mut Rng, piece: Piece, origin: Triple, direction: Triple) -> Beam {
+pub fn plain(rng: &mut Rng, piece: Piece, origin: Triple, direction: Triple) -> Beam {
     let mut object_to_world = identity();
     if rng.one_in(2) {
         object_to_world = permutation(rng);
@@ -474,12 +477,12 @@ fn plain(rng: &mut Rng, piece: Piece, origin: Triple, direction: Triple) -> Beam
 }
 
 /// A number that leaves room for exact sums.
-fn round(rng: &mut Rng) -> f32 {
+pub fn round(rng: &mut Rng) -> f32 {
     rng.integer(16) * pow2(rng.between(-2, 2))
 }
 
 /// The belt lies across the beam where it begins, so that the distance is zero, or next to it.
-fn at_origin(rng: &mut Rng) -> Beam {
+pub fn at_origin(rng: &mut Rng) -> Beam {
     let mut along = axis(rng);
     let speed = pow2(rng.between(-20, 20));
     let mut piece = if rng.one_in(2) {
@@ -506,12 +509,7 @@ fn at_origin(rng: &mut Rng) -> Beam {
     let mut beam = plain(rng, piece, origin, along.map(|x| x * speed));
     let shift = rng.pick(&[0.0, -0.0, -0.0, 1.0]) * rng.below(8) as f32;
     (0..3).for_each(|i| beam.cast.world_to_object[4 * i + 3] = shift);
-    // Where the beam begins is moved by the error of its origin.
-    let mut errors = [Vector3f::default(); 2];
-    let [o_error, d_error] = &mut errors;
-    let begin = transform(&beam.cast.world_to_object)
-        .transform_ray_error(&beam.cast.ray(), o_error, d_error)
-        .o;
+    let begin = in_object(&beam.cast).expect("a weight of one").o;
     let begin = [begin.x, begin.y, begin.z];
     let place = place(rng, &piece);
     let aside = scaled(
@@ -588,7 +586,7 @@ fn along_tangent(rng: &mut Rng) -> Beam {
 }
 
 /// A belt so short that squares of its derivative, or of its normal, underflow.
-fn tiny_belt(rng: &mut Rng) -> Beam {
+pub fn tiny_belt(rng: &mut Rng) -> Beam {
     let along = axis(rng);
     let size = pow2(rng.between(-76, -56));
     let distance = if rng.one_in(4) {
@@ -613,7 +611,7 @@ fn tiny_belt(rng: &mut Rng) -> Beam {
 }
 
 /// The square of the direction underflows; the direction from the origin on, rounded up, need not.
-fn tiny_direction(rng: &mut Rng) -> Beam {
+pub fn tiny_direction(rng: &mut Rng) -> Beam {
     let along = axis(rng);
     let size = pow2(-75 - rng.pick(&[0, 0, 0, 0, 0, 1, 4, -2]));
     let origin = along.map(|x| {
@@ -693,7 +691,7 @@ fn weightless(rng: &mut Rng) -> Beam {
 }
 
 /// So small a weight that the origin goes out of reach, or to infinity: then the frame is of NaNs.
-fn far_origin(rng: &mut Rng) -> Beam {
+pub fn far_origin(rng: &mut Rng) -> Beam {
     let mut piece = belt(rng);
     let size = pow2(rng.between(15, 21));
     for x in &mut piece[POINTS] {
@@ -712,40 +710,54 @@ fn far_origin(rng: &mut Rng) -> Beam {
     beam
 }
 
-/// `look_at` gives the identity: the square of the up vector overflows, or that vector lies along all that
-/// the origin leaves of the direction.
+/// `look_at` gives the identity.
 fn no_frame(rng: &mut Rng) -> Beam {
     let mut beam = plain(rng, [0.0; CURVE_FLOATS], [0.0; 3], [0.0; 3]);
     let points = if rng.one_in(2) {
-        // The longest direction there is, and nearly the longest chord across it.
-        let signs: Triple = std::array::from_fn(|_| rng.signed(1.0));
-        let chord = [-signs[1], signs[0], 0.0];
-        for i in 0..3 {
-            let sign = rng.signed(1.0);
-            (0..3).for_each(|k| beam.cast.world_to_object[4 * i + k] = sign * signs[k] * ENTRY);
-            beam.cast.ray[RAY_D][i] = signs[i] * ENTRY;
-        }
-        let ahead = rng.pick(&[0.0, 1.0, 1000.0, PIECE.coordinate]);
-        let bend = unit(rng).map(|x| x * pow2(rng.between(0, 18)));
-        [(-1.0, 0.0), (-0.3, 1.0), (0.3, -1.0), (1.0, 0.0)].map(|(along, bent)| {
-            let [x, y, z] = triple(|k| chord[k] * (along * PIECE.coordinate) + bend[k] * bent);
-            [x, y, z + ahead]
-        })
+        overflowing_up(rng, &mut beam.cast)
     } else {
-        let mut points = piece::points(&belt(rng));
-        let (lost, kept) = rng.pick(&[(0, 1), (0, 2), (1, 2), (1, 0), (2, 0), (2, 1)]);
-        let level = points[0][kept];
-        points.iter_mut().for_each(|p| p[kept] = level);
-        beam.cast.ray[RAY_O][lost] = ENTRY;
-        beam.cast.ray[RAY_D][lost] = pow2(-5);
-        beam.cast.ray[RAY_D][kept] = pow2(-rng.between(80, 85));
-        (0..3).for_each(|i| beam.cast.world_to_object[5 * i] = pow2(10));
-
-        points
+        parallel_up(rng, &mut beam.cast)
     };
-    beam.piece = held(piece::from_parts(&points, [PIECE.width; 2], [0.0, 1.0]));
+    beam.piece = as_wide_as_can_be(&points);
 
     beam
+}
+
+/// The square of the up vector overflows: the longest direction there is, and nearly the longest chord across
+/// it.
+fn overflowing_up(rng: &mut Rng, cast: &mut Cast) -> [Triple; 4] {
+    let signs: Triple = std::array::from_fn(|_| rng.signed(1.0));
+    let chord = [-signs[1], signs[0], 0.0];
+    for i in 0..3 {
+        let sign = rng.signed(1.0);
+        (0..3).for_each(|k| cast.world_to_object[4 * i + k] = sign * signs[k] * ENTRY);
+        cast.ray[RAY_D][i] = signs[i] * ENTRY;
+    }
+    let ahead = rng.pick(&[0.0, 1.0, 1000.0, PIECE.coordinate]);
+    let bend = unit(rng).map(|x| x * pow2(rng.between(0, 18)));
+
+    [(-1.0, 0.0), (-0.3, 1.0), (0.3, -1.0), (1.0, 0.0)].map(|(along, bent)| {
+        let [x, y, z] = triple(|k| chord[k] * (along * PIECE.coordinate) + bend[k] * bent);
+        [x, y, z + ahead]
+    })
+}
+
+/// The up vector lies along all that the origin leaves of the direction.
+pub fn parallel_up(rng: &mut Rng, cast: &mut Cast) -> [Triple; 4] {
+    let mut points = piece::points(&belt(rng));
+    let (lost, kept) = rng.pick(&[(0, 1), (0, 2), (1, 2), (1, 0), (2, 0), (2, 1)]);
+    let level = points[0][kept];
+    points.iter_mut().for_each(|p| p[kept] = level);
+    cast.ray[RAY_O][lost] = ENTRY;
+    cast.ray[RAY_D][lost] = pow2(-5);
+    cast.ray[RAY_D][kept] = pow2(-rng.between(80, 85));
+    (0..3).for_each(|i| cast.world_to_object[5 * i] = pow2(10));
+
+    points
+}
+
+pub fn as_wide_as_can_be(points: &[Triple; 4]) -> Piece {
+    held(piece::from_parts(points, [PIECE.width; 2], [0.0, 1.0]))
 }
 
 fn any(rng: &mut Rng) -> Beam {
@@ -777,8 +789,13 @@ pub fn end_at_hit(rng: &mut Rng, beam: &mut Beam) {
     }
 }
 
-/// One number at 01's limit, beyond it, or anything.
-fn spoil(rng: &mut Rng, beam: &mut Beam) {
+/// One number or a few, at 01's limit, beyond it, or anything.
+pub fn spoil(rng: &mut Rng, piece: &mut Piece, cast: &mut Cast) {
+    let faults = rng.pick(&[1, 1, 1, 1, 1, 1, 3]);
+    (0..faults).for_each(|_| spoil_one(rng, piece, cast));
+}
+
+fn spoil_one(rng: &mut Rng, piece: &mut Piece, cast: &mut Cast) {
     let limit = rng.signed(ENTRY);
     let number = match rng.below(8) {
         0 | 1 => limit,
@@ -787,14 +804,14 @@ fn spoil(rng: &mut Rng, beam: &mut Beam) {
         _ => rng.special(),
     };
     match rng.below(8) {
-        0 | 1 => spoil_piece(rng, &mut beam.piece),
-        2 => *rng.one_of(&mut beam.cast.object_to_world) = number,
-        3 => *rng.one_of(&mut beam.cast.world_to_object) = number,
+        0 | 1 => spoil_piece(rng, piece),
+        2 => *rng.one_of(&mut cast.object_to_world) = number,
+        3 => *rng.one_of(&mut cast.world_to_object) = number,
         4 => {
             let wrong = [-pow2(-149), -1.0, f32::NEG_INFINITY, f32::NAN, -0.0];
-            beam.cast.ray[RAY_T_MAX] = rng.pick(&wrong);
+            cast.ray[RAY_T_MAX] = rng.pick(&wrong);
         }
-        _ => *rng.one_of(&mut beam.cast.ray) = number,
+        _ => *rng.one_of(&mut cast.ray) = number,
     }
 }
 

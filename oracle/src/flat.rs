@@ -1,11 +1,14 @@
 //! A second reading of 01's beam: "Depth", "Cutting and walking" and "Hit" as they stand there, over all
-//! pieces by level and number, and not as the Rust recurses. Only the frame's tools are the Rust's.
+//! pieces by level and number, and not as the Rust recurses; and of 02's nearest of a list (P1). Only the
+//! frame's tools are the Rust's.
 
-use crate::beam::{transform, Beam, Reply};
+use crate::beam::{transform, Beam, Cast, Reply};
 use crate::layout::{
     RECORD_DPDU, RECORD_DPDV, RECORD_ERROR, RECORD_FLOATS, RECORD_N, RECORD_P, RECORD_T,
     RECORD_TIME, RECORD_U, RECORD_V, RECORD_WO, UMAX, UMIN, WIDTH0, WIDTH1,
 };
+use crate::limits;
+use crate::nearest::{self, ListBeam};
 use crate::piece;
 use crate::record::Record;
 use pbrt::core::geometry::point::Point3f;
@@ -41,11 +44,19 @@ struct Open {
 }
 
 /// An open sliver that passes.
-struct Passing {
+pub struct Passing {
     number: u32,
-    distance: f32,
+    pub distance: f32,
     /// Or the refusal, where it has no frame.
-    record: Result<Record, u32>,
+    pub record: Result<Record, u32>,
+}
+
+/// The walk from a whole that is not thrown out, with no stop.
+struct Walk {
+    depth: u32,
+    /// The open pieces, by level from the whole to the slivers, in order.
+    levels: Vec<Vec<Open>>,
+    passing: Vec<Passing>,
 }
 
 pub fn read(beam: &Beam) -> Reading {
@@ -54,21 +65,24 @@ pub fn read(beam: &Beam) -> Reading {
         depth: None,
         passing: 0,
     };
-    let framed = match frame(beam) {
-        Ok(framed) => framed,
-        Err(refusal) => return not_entered(Reply::Refused(refusal)),
-    };
-    let u = [beam.piece[UMIN], beam.piece[UMAX]];
-    let half = half_width(beam, u);
-    if thrown_out(&framed, &framed.points, half, half) {
-        return not_entered(Reply::Miss(0));
+    match walk(beam) {
+        Ok(Some(walk)) => Reading {
+            reply: last(&walk),
+            depth: Some(walk.depth as u64),
+            passing: walk.passing.len(),
+        },
+        Ok(None) => not_entered(Reply::Miss(0)),
+        Err(refusal) => not_entered(Reply::Refused(refusal)),
     }
-    let depth = depth(beam, &framed.points);
-    let levels = open_pieces(beam, &framed, u, depth);
-    let passing: Vec<Passing> = levels[depth as usize]
-        .iter()
-        .filter_map(|sliver| leaf(beam, &framed, sliver))
-        .collect();
+}
+
+/// The stop, or else the last.
+fn last(walk: &Walk) -> Reply {
+    let Walk {
+        depth,
+        levels,
+        passing,
+    } = walk;
     let stop = passing
         .iter()
         .find(|sliver| sliver.record.is_err() || sliver.distance == 0.0);
@@ -81,29 +95,73 @@ pub fn read(beam: &Beam) -> Reading {
         .enumerate()
         .map(|(level, list)| list.iter().filter(|o| starts_in_time(level, o)).count())
         .sum::<usize>() as u32;
-    let reply = match stop.or(passing.last()) {
+    match stop.or(passing.last()) {
         Some(sliver) => match sliver.record {
             Ok(record) => Reply::Hit(looked, record),
             Err(refusal) => Reply::Refused(refusal),
         },
         None => Reply::Miss(looked),
-    };
-
-    Reading {
-        reply,
-        depth: Some(depth as u64),
-        passing: passing.len(),
     }
+}
+
+/// P1's answer within the limits of the list, the matrices and the ray: the first than which none is nearer.
+pub fn nearest(beam: &ListBeam) -> nearest::Reply {
+    let mut hits = Vec::new();
+    for (number, piece) in beam.pieces().iter().enumerate() {
+        match counted(&beam.at(piece)) {
+            Ok(records) => hits.extend(records.iter().map(|record| (number, *record))),
+            Err(refusal) => return nearest::Reply::Refused(refusal),
+        }
+    }
+    let nearer = |a: &Record, b: &Record| a[RECORD_T] < b[RECORD_T];
+    let none_nearer = |record: &Record| !hits.iter().any(|(_, other)| nearer(other, record));
+    match hits.iter().find(|(_, record)| none_nearer(record)) {
+        Some((number, record)) => nearest::Reply::Hit(*number as u32, *record),
+        None => nearest::Reply::Miss,
+    }
+}
+
+/// The records of a piece's slivers that pass by P1, or its first refusal.
+fn counted(beam: &Beam) -> Result<Vec<Record>, u32> {
+    limits::piece(&beam.piece)?;
+    let slivers = passing(beam)?.into_iter();
+
+    slivers
+        .filter(|sliver| !sliver.distance.is_nan())
+        .map(|sliver| sliver.record)
+        .collect()
+}
+
+/// The open slivers of a piece that pass, or 12 or 13.
+pub fn passing(beam: &Beam) -> Result<Vec<Passing>, u32> {
+    Ok(walk(beam)?.map_or(Vec::new(), |walk| walk.passing))
+}
+
+/// None where the whole is thrown out.
+fn walk(beam: &Beam) -> Result<Option<Walk>, u32> {
+    let framed = frame(beam)?;
+    let u = [beam.piece[UMIN], beam.piece[UMAX]];
+    let half = half_width(beam, u);
+    if thrown_out(&framed, &framed.points, half, half) {
+        return Ok(None);
+    }
+    let depth = depth(beam, &framed.points);
+    let levels = open_pieces(beam, &framed, u, depth);
+    let passing = levels[depth as usize]
+        .iter()
+        .filter_map(|sliver| leaf(beam, &framed, sliver))
+        .collect();
+
+    Ok(Some(Walk {
+        depth,
+        levels,
+        passing,
+    }))
 }
 
 /// 12 and 13 in the order of the Rust.
 fn frame(beam: &Beam) -> Result<Framed, u32> {
-    let world_to_object = transform(&beam.cast.world_to_object);
-    let ray = beam.cast.ray();
-    weight(&world_to_object.m, &ray.o)?;
-    let mut errors = [Vector3f::default(); 2];
-    let [o_error, d_error] = &mut errors;
-    let ray = world_to_object.transform_ray_error(&ray, o_error, d_error);
+    let ray = in_object(&beam.cast)?;
     let points = blossoms(beam);
     let mut up = ray.d.cross(&(points[3] - points[0]));
     if up.length_squared() == 0.0 {
@@ -128,6 +186,17 @@ fn frame(beam: &Beam) -> Result<Framed, u32> {
         ray,
         to_ray,
     })
+}
+
+/// The ray in the object's frame, or 12. Where it begins is moved by the error of its origin.
+pub fn in_object(cast: &Cast) -> Result<Ray, u32> {
+    let world_to_object = transform(&cast.world_to_object);
+    let ray = cast.ray();
+    weight(&world_to_object.m, &ray.o)?;
+    let mut errors = [Vector3f::default(); 2];
+    let [o_error, d_error] = &mut errors;
+
+    Ok(world_to_object.transform_ray_error(&ray, o_error, d_error))
 }
 
 fn weight(m: &Matrix4x4, p: &Point3f) -> Result<(), u32> {
@@ -220,7 +289,6 @@ fn depth(beam: &Beam, points: &Points) -> u32 {
     (log / 2).min(10)
 }
 
-/// The open pieces, by level from the whole to the slivers, in order.
 fn open_pieces(beam: &Beam, framed: &Framed, u: [f32; 2], depth: u32) -> Vec<Vec<Open>> {
     let whole = Open {
         number: 0,

@@ -1,11 +1,12 @@
 //! What can be asked: for each kind its layout, its inputs and the call of the supplied Rust.
 
 use crate::limits::{self, ShapeParams};
+use crate::nearest::{self, ListBeam};
 use crate::params;
 use crate::piece::{self, Piece};
 use crate::rng::Rng;
 use crate::words::{put, put_bounds, put_matrix, put_point, put_vector, Reader, Words};
-use crate::{beam, beam_inputs, curve_inputs, inputs};
+use crate::{beam, beam_inputs, curve_inputs, inputs, nearest_inputs};
 use pbrt::core::geometry::ray::Ray;
 use pbrt::core::geometry::vector::{vec3_coordinate_system, Vector3f};
 use pbrt::core::shape::{Shape, Shapes};
@@ -108,6 +109,13 @@ pub const KINDS: &[Kind] = &[
          status [looked [t u v p(3) error(3) time wo(3) n(3) dpdu(3) dpdv(3)]]",
         beam_inputs::intersect,
         intersect,
+    ),
+    kind(
+        "nearest",
+        "len list(len) object_to_world(16) world_to_object(16) reverse o(3) d(3) t_max time -> \
+         status [piece t u v p(3) error(3) time wo(3) n(3) dpdu(3) dpdv(3)]",
+        nearest_inputs::nearest,
+        nearest,
     ),
 ];
 
@@ -245,6 +253,10 @@ pub fn shape_params(line: &mut Reader) -> ShapeParams {
 fn intersect(line: &mut Reader, answer: &mut Words) {
     let (reply, _) = beam::checked(line.0);
     answer.extend(reply.words());
+}
+
+fn nearest(line: &mut Reader, answer: &mut Words) {
+    answer.extend(nearest::checked(&ListBeam::read(line)).words());
 }
 
 /// 01's reply: the status, then what an acceptance carries.

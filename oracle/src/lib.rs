@@ -10,6 +10,8 @@ pub mod kinds;
 #[path = "../../bindings/rust/src/layout.rs"]
 pub mod layout;
 pub mod limits;
+pub mod nearest;
+pub mod nearest_inputs;
 pub mod panics;
 pub mod params;
 pub mod piece;

@@ -1,5 +1,5 @@
-//! 01's refusals 1 to 11, which the supplied Rust has not, or not in this order: a second reading of the
-//! paper, independent of the library's. Each function tells the first refusal that holds.
+//! 01's refusals 1 to 11 and 02's 19, which the supplied Rust has not, or not in this order: a second reading
+//! of the papers, independent of the library's. Each function tells the first refusal that holds.
 
 use crate::layout::{CURVE_FLOATS, POINTS, RAY_FLOATS, RAY_T_MAX, UMAX, UMIN, WIDTH0, WIDTH1};
 use crate::piece::Piece;
@@ -68,6 +68,15 @@ pub fn piece(piece: &Piece) -> Result<(), u32> {
         Ok(())
     } else {
         Err(9)
+    }
+}
+
+/// Refusal 19.
+pub fn list(floats: &[f32]) -> Result<(), u32> {
+    if floats.len() % CURVE_FLOATS == 0 {
+        Ok(())
+    } else {
+        Err(19)
     }
 }
 
