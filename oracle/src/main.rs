@@ -17,6 +17,7 @@ fn main() {
         ["--help"] => print!("{}", usage()),
         ["kinds"] => KINDS.iter().for_each(|kind| println!("{}", kind.name)),
         ["shares", seed, n] => shares::print(number(seed), number(n)),
+        ["nearest_shares", seed, n] => shares::print_nearest(number(seed), number(n)),
         ["sheets", seed, n, dir] => sheets(number(seed), number(n), Path::new(dir)),
         ["sheet"] => answer_sheet(),
         ["sheet_shares", seed, n] => shares::print_sheets(number(seed), number(n)),
@@ -34,16 +35,17 @@ fn number(text: &str) -> u64 {
 
 fn usage() -> String {
     let mut text = format!(
-        "oracle KIND SEED N          N lines of that kind: the inputs, then the answer of the Rust\n\
-         oracle kinds                the names of the kinds\n\
-         oracle shares SEED N        what the inputs of `intersect` reach, as shares of N lines\n\
-         oracle sheets SEED N DIR    N belt sheets DIR/0.sheet, .. and what `beltbeam` prints for each, DIR/0.out, ..\n\
-         oracle sheet                what `beltbeam` prints for the belt sheet on standard input\n\
-         oracle sheet_shares SEED N  what the belt sheets reach, as shares of N sheets\n\
+        "oracle KIND SEED N            N lines of that kind: the inputs, then the answer of the Rust\n\
+         oracle kinds                  the names of the kinds\n\
+         oracle shares SEED N          what the inputs of `intersect` reach, as shares of N lines\n\
+         oracle nearest_shares SEED N  what the inputs of `nearest` reach\n\
+         oracle sheets SEED N DIR      N belt sheets DIR/0.sheet, .. and what `beltbeam` prints for each, DIR/0.out, ..\n\
+         oracle sheet                  what `beltbeam` prints for the belt sheet on standard input\n\
+         oracle sheet_shares SEED N    what the belt sheets reach, as shares of N sheets\n\
          \n\
          Words of eight hexadecimal digits; a NaN is 7fc00000. A line without an answer is one on which\n\
          the Rust panics because a length or a weight is zero. A status is 0, or 1 for a miss, or the\n\
-         number of 01's refusal, behind which nothing follows. A piece is {CURVE_FLOATS} words, in the order of\n\
+         number of 01's or 02's refusal, behind which nothing follows. A piece is {CURVE_FLOATS} words, in the order of\n\
          bindings/rust/src/layout.rs.\n\n"
     );
     for kind in KINDS {
