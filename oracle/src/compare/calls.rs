@@ -5,12 +5,30 @@
 
 use crate::answer::Output;
 use declared::*;
+use oracle::beam::Cast;
 use oracle::inputs::Matrix;
 use oracle::layout::{BEAMS_FLOATS, BOX_FLOATS, RAY_FLOATS, RECORD_FLOATS, SHEET_NUMBERS};
 use oracle::limits::ShapeParams;
 
 #[path = "../../../bindings/rust/src/declared.rs"]
 mod declared;
+
+/// How many words of an output a usize takes, the low one first.
+pub const USIZE_WORDS: usize = 2;
+
+// The bindings do not declare it yet.
+extern "C" {
+    fn curve_nearest(
+        list: *const f32,
+        len: usize,
+        object_to_world: *const Matrix,
+        world_to_object: *const Matrix,
+        reverse: u32,
+        ray: *const [f32; RAY_FLOATS],
+        record: *mut [f32; RECORD_FLOATS],
+        piece: *mut usize,
+    ) -> u32;
+}
 
 pub fn create(params: &ShapeParams, list: &mut Output, pieces: &mut Output) -> u32 {
     let [width0, width1] = params.widths;
@@ -57,9 +75,8 @@ pub fn area(piece: &[f32], out: &mut Output) -> u32 {
 
 pub fn intersect(
     piece: &[f32],
-    [object_to_world, world_to_object]: [&Matrix; 2],
+    cast: &Cast,
     reverse: u32,
-    ray: &[f32; RAY_FLOATS],
     record: &mut Output,
     looked: &mut Output,
 ) -> u32 {
@@ -69,12 +86,36 @@ pub fn intersect(
         curve_intersect(
             piece.as_ptr(),
             piece.len(),
-            object_to_world,
-            world_to_object,
+            &cast.object_to_world,
+            &cast.world_to_object,
             reverse,
-            ray,
+            &cast.ray,
             record.as_mut_ptr().cast(),
             looked,
+        )
+    }
+}
+
+pub fn nearest(
+    list: &[f32],
+    cast: &Cast,
+    reverse: u32,
+    record: &mut Output,
+    piece: &mut Output,
+) -> u32 {
+    let record = record.array::<RECORD_FLOATS>();
+    let piece: *mut usize = piece.array::<USIZE_WORDS>().as_mut_ptr().cast();
+    assert!(piece.is_aligned());
+    unsafe {
+        curve_nearest(
+            list.as_ptr(),
+            list.len(),
+            &cast.object_to_world,
+            &cast.world_to_object,
+            reverse,
+            &cast.ray,
+            record.as_mut_ptr().cast(),
+            piece,
         )
     }
 }

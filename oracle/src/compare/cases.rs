@@ -3,14 +3,16 @@
 //! is too short or too long, a reverse flag above 1, another NaN, another list.
 
 use crate::answer::{Answer, Output};
-use crate::calls;
+use crate::calls::{self, USIZE_WORDS};
 use crate::tally::Reply;
+use oracle::beam::Cast;
 use oracle::inputs::Matrix;
 use oracle::kinds::{self, Kind};
 use oracle::layout::{
-    BEAMS_FLOATS, BOX_FLOATS, CURVE_FLOATS, RAY_FLOATS, RECORD_FLOATS, SHEET_LINE, SHEET_NUMBERS,
+    BEAMS_FLOATS, BOX_FLOATS, CURVE_FLOATS, RECORD_FLOATS, SHEET_LINE, SHEET_NUMBERS,
 };
 use oracle::limits::ShapeParams;
+use oracle::nearest::{self, ListBeam};
 use oracle::piece::Piece;
 use oracle::rng::Rng;
 use oracle::sheet::{self, Refused, LIST_LEN};
@@ -292,12 +294,37 @@ impl Case for Area {
     }
 }
 
+/// A reverse flag above 1 counts as 1.
+fn reverse_flag(call: &mut Rng, reverse: bool) -> u32 {
+    if reverse {
+        call.pick(&[1, 1, 2, 3, 0x100, 1 << 31, u32::MAX])
+    } else {
+        0
+    }
+}
+
+fn cast_inputs(cast: &Cast, reverse: u32) -> [(&'static str, String); 4] {
+    [
+        ("object_to_world", floats_text(&cast.object_to_world)),
+        ("world_to_object", floats_text(&cast.world_to_object)),
+        ("reverse", reverse.to_string()),
+        ("ray", floats_text(&cast.ray)),
+    ]
+}
+
+/// What the number of a beam's answer means.
+fn met(number: u32) -> Reply {
+    match number {
+        0 => Reply::Hit,
+        1 => Reply::Miss,
+        _ => Reply::Refused(number),
+    }
+}
+
 pub struct Intersect {
     line: PieceLine,
-    object_to_world: Matrix,
-    world_to_object: Matrix,
+    cast: Cast,
     reverse: u32,
-    ray: [f32; RAY_FLOATS],
 }
 
 impl Case for Intersect {
@@ -305,32 +332,21 @@ impl Case for Intersect {
 
     fn new(rng: &mut Rng, call: &mut Rng) -> Intersect {
         let line = PieceLine::new::<Self>(rng, call);
-        let mut rest = line.behind_piece();
-        let object_to_world = rest.floats();
-        let world_to_object = rest.floats();
-        let reverse = match rest.word() {
-            0 => 0,
-            _ => call.pick(&[1, 1, 2, 3, 0x100, 1 << 31, u32::MAX]),
-        };
-        let ray = rest.floats();
+        let cast = Cast::read(&mut line.behind_piece());
+        let reverse = reverse_flag(call, cast.reverse);
 
         Intersect {
             line,
-            object_to_world,
-            world_to_object,
+            cast,
             reverse,
-            ray,
         }
     }
 
     fn inputs(&self) -> Vec<(&'static str, String)> {
-        vec![
-            self.line.piece_input(),
-            ("object_to_world", floats_text(&self.object_to_world)),
-            ("world_to_object", floats_text(&self.world_to_object)),
-            ("reverse", self.reverse.to_string()),
-            ("ray", floats_text(&self.ray)),
-        ]
+        let mut inputs = vec![self.line.piece_input()];
+        inputs.extend(cast_inputs(&self.cast, self.reverse));
+
+        inputs
     }
 
     /// With a hit go the count and the record, with a miss the count.
@@ -354,9 +370,8 @@ impl Case for Intersect {
         Answer {
             number: calls::intersect(
                 &self.line.piece(),
-                [&self.object_to_world, &self.world_to_object],
+                &self.cast,
                 self.reverse,
-                &self.ray,
                 &mut record,
                 &mut looked,
             ),
@@ -365,11 +380,7 @@ impl Case for Intersect {
     }
 
     fn reply(number: u32) -> Reply {
-        match number {
-            0 => Reply::Hit,
-            1 => Reply::Miss,
-            _ => Reply::Refused(number),
-        }
+        met(number)
     }
 }
 
@@ -381,6 +392,81 @@ impl Intersect {
         ]
     }
 }
+
+pub struct Nearest {
+    beam: ListBeam,
+    reverse: u32,
+}
+
+impl Case for Nearest {
+    const NAME: &'static str = "nearest";
+
+    fn new(rng: &mut Rng, call: &mut Rng) -> Nearest {
+        let words = line(kind_of::<Self>(), rng, call);
+        let mut beam = ListBeam::read(&mut Reader(&words));
+        if call.one_in(16) {
+            // Where it gets longer the first floats come again.
+            let len = call.pick(&LENGTHS);
+            beam.list = beam.list.iter().copied().cycle().take(len).collect();
+        }
+        let reverse = reverse_flag(call, beam.cast.reverse);
+
+        Nearest { beam, reverse }
+    }
+
+    fn inputs(&self) -> Vec<(&'static str, String)> {
+        let mut inputs = vec![("list", floats_text(&self.beam.list))];
+        inputs.extend(cast_inputs(&self.beam.cast, self.reverse));
+
+        inputs
+    }
+
+    /// With a hit go its piece and the record.
+    fn rust(&self) -> Answer {
+        let [mut record, mut piece] = Nearest::outputs();
+        let answer = nearest::checked(&self.beam).words();
+        if let [_, number, hit @ ..] = &answer[..] {
+            piece.write(0, &[*number, 0]);
+            record.write(0, hit);
+        }
+
+        Answer {
+            number: answer[0],
+            outputs: vec![record, piece],
+        }
+    }
+
+    fn library(&self) -> Answer {
+        let [mut record, mut piece] = Nearest::outputs();
+
+        Answer {
+            number: calls::nearest(
+                &self.beam.list,
+                &self.beam.cast,
+                self.reverse,
+                &mut record,
+                &mut piece,
+            ),
+            outputs: vec![record, piece],
+        }
+    }
+
+    fn reply(number: u32) -> Reply {
+        met(number)
+    }
+}
+
+impl Nearest {
+    fn outputs() -> [Output; 2] {
+        [
+            Output::new("record", RECORD_FLOATS),
+            Output::new("piece", USIZE_WORDS),
+        ]
+    }
+}
+
+/// Of a list that no line has: no whole number of pieces, or many pieces.
+const LENGTHS: [usize; 12] = [0, 1, 8, 15, 17, 31, 33, 47, 127, 129, 16 * 9, 16 * 40];
 
 pub struct Sheet {
     bytes: Vec<u8>,

@@ -23,6 +23,7 @@ fn main() {
         Tally::of::<cases::WorldBound>(seed, n),
         Tally::of::<cases::Area>(seed, n),
         Tally::of::<cases::Intersect>(seed, n),
+        Tally::of::<cases::Nearest>(seed, n),
         Tally::of::<cases::Sheet>(seed, n),
     ];
     print!("{}", tally::table(&tallies));
