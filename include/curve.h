@@ -5,9 +5,10 @@
  * tools/install put it, with what `pkg-config --cflags --libs curve_c` says.
  *
  * Every function ends, for every input, and returns CURVE_DONE with its answer, or the number of a refusal.
- * curve_intersect returns CURVE_HIT, CURVE_MISS, or the number of a refusal. A refusal leaves every output as it was,
- * but for out[CURVE_SHEET_LINE] of curve_sheet, which is written with every reply. Nothing is allocated, no function
- * keeps a pointer, and calls from several threads at once are safe as long as their outputs differ.
+ * curve_intersect and curve_nearest return CURVE_HIT, CURVE_MISS, or the number of a refusal. A refusal leaves every
+ * output as it was, but for out[CURVE_SHEET_LINE] of curve_sheet, which is written with every reply. Nothing is
+ * allocated, no function keeps a pointer, and calls from several threads at once are safe as long as their outputs
+ * differ.
  *
  * What C cannot say and a caller owes: a pointer has room for its length (or for the array that is named) and is
  * aligned as C asks of its type, and an output overlaps neither an input nor another output. A pointer that goes with
@@ -32,14 +33,15 @@ extern "C" {
 
 /*
  * What a call returns. Of several reasons to refuse the first is told: by the numbers, but of a sheet 18 and 17 before
- * the others, and 12 and 13 in the order in which the ray's frame meets them.
+ * the others, of curve_nearest 19, 10 and 11 before those of a piece, and 12 and 13 in the order in which the ray's
+ * frame meets them.
  */
 enum {
     CURVE_DONE = 0,                     /* the answer is written */
 
-    /* Of curve_intersect. */
+    /* Of curve_intersect and curve_nearest. */
     CURVE_HIT = 0,                      /* the record is written */
-    CURVE_MISS = 1,                     /* the ray does not meet the piece */
+    CURVE_MISS = 1,                     /* the ray meets no piece */
 
     /* Refusals. */
     CURVE_REFUSED_DEGREE = 1,           /* it is not 2 or 3 */
@@ -59,7 +61,8 @@ enum {
     CURVE_REFUSED_ZERO_ACROSS = 15,     /* the vector across the curve has length zero at the hit */
     CURVE_REFUSED_ZERO_NORMAL = 16,     /* the normal or the direction back has length zero at the hit */
     CURVE_REFUSED_WRONG_LINE = 17,      /* of a sheet, or a missing one: out[CURVE_SHEET_LINE] */
-    CURVE_REFUSED_SHEET_TOO_LONG = 18   /* over 65,536 bytes */
+    CURVE_REFUSED_SHEET_TOO_LONG = 18,  /* over 65,536 bytes */
+    CURVE_REFUSED_LIST_LENGTH = 19      /* it is no whole number of pieces */
 };
 
 /* What curve_create takes. */
@@ -82,6 +85,7 @@ enum {
     CURVE_STACK_WORLD_BOUND = 512,
     CURVE_STACK_AREA = 384,
     CURVE_STACK_INTERSECT = 8192,
+    CURVE_STACK_NEAREST = 8192,
     CURVE_STACK_SHEET = 40960
 };
 
@@ -180,6 +184,19 @@ uint32_t curve_intersect(const float *piece, size_t len, const float object_to_w
                          const float world_to_object[CURVE_MATRIX_FLOATS], uint32_t reverse,
                          const float ray[CURVE_RAY_FLOATS], float record[CURVE_RECORD_FLOATS],
                          uint32_t *looked);
+
+/*
+ * Where a ray meets a list of pieces, CURVE_FLOATS floats each, at the least distance of all its crossings with all of
+ * them; of those as near, at the first of the earliest piece. curve_intersect tells a piece's last crossing, so the
+ * nearest of its answers can lie further. reverse: whether normals turn; above 1 counts as 1. Answers
+ *   0  a hit: its record, and in *piece the number of its piece in the list, from 0;
+ *   1  a miss, as with an empty list: record and *piece are as they were;
+ *   or 19, then 10 or 11, then the first of 9 and 12 to 16 that is met, piece by piece.
+ * A crossing that 14, 15 or 16 refuses is told also where a nearer one was found. At a NaN distance there is none.
+ */
+uint32_t curve_nearest(const float *list, size_t len, const float object_to_world[CURVE_MATRIX_FLOATS],
+                       const float world_to_object[CURVE_MATRIX_FLOATS], uint32_t reverse,
+                       const float ray[CURVE_RAY_FLOATS], float record[CURVE_RECORD_FLOATS], size_t *piece);
 
 /*
  * Reads a belt sheet and writes its pieces to `list`.

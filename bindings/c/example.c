@@ -1,5 +1,5 @@
 /*
- * A straight belt, a beam that meets it, one that misses it, and a belt that is refused.
+ * A straight belt, a beam that meets it, one that misses it, two decks under a beam, and a belt that is refused.
  * `bindings/test` builds and runs this; what it prints is in `expected`.
  */
 #include <math.h>
@@ -21,6 +21,9 @@ enum { POINTS_FLOATS = 4 * 3 };
 
 /* From x = -3 to 3 at z = 4. */
 static const float straight[POINTS_FLOATS] = {-3, 0, 4, -1, 0, 4, 1, 0, 4, 3, 0, 4};
+
+/* Out at z = 6 and back below at z = 2, so that a beam down from the middle crosses it twice. */
+static const float decks[POINTS_FLOATS] = {-9, 0, 6, 7, 0, 6, 7, 0, 2, -9, 0, 2};
 
 /* Swings about the beam, and goes along it in the middle. */
 static const float along[POINTS_FLOATS] = {-1, 0, 4, 1, 0, 5, -1, 0, 6, 1, 0, 7};
@@ -46,22 +49,42 @@ static void lay(const float points[POINTS_FLOATS], float width, float piece[CURV
            piece[CURVE_UMIN], piece[CURVE_UMAX]);
 }
 
-/* Shoots a beam up from x, and prints what it meets. */
-static void shoot(const float piece[CURVE_FLOATS], float x)
+/* Prints what a beam met, but for the count or the piece that goes with it. */
+static void print_met(uint32_t number, const float record[CURVE_RECORD_FLOATS])
 {
-    const float ray[CURVE_RAY_FLOATS] = {x, 0, 0, 0, 0, 1, INFINITY, 0};
+    if (number == CURVE_HIT) {
+        printf("t=%g u=%g v=%g", record[CURVE_RECORD_T], record[CURVE_RECORD_U], record[CURVE_RECORD_V]);
+    } else if (number == CURVE_MISS) {
+        printf("miss");
+    } else {
+        printf("refused=%u", (unsigned)number);
+    }
+}
+
+/* Shoots a beam at a piece, and prints what it meets. */
+static void shoot(const float piece[CURVE_FLOATS], const float ray[CURVE_RAY_FLOATS])
+{
     float record[CURVE_RECORD_FLOATS];
     uint32_t looked;
     uint32_t number = curve_intersect(piece, CURVE_FLOATS, identity, identity, 0, ray, record, &looked);
 
-    if (number == CURVE_HIT) {
-        printf("t=%g u=%g v=%g looked=%u\n", record[CURVE_RECORD_T], record[CURVE_RECORD_U],
-               record[CURVE_RECORD_V], (unsigned)looked);
-    } else if (number == CURVE_MISS) {
-        printf("miss looked=%u\n", (unsigned)looked);
-    } else {
-        printf("refused=%u\n", (unsigned)number);
-    }
+    print_met(number, record);
+    if (number == CURVE_HIT || number == CURVE_MISS)
+        printf(" looked=%u", (unsigned)looked);
+    printf("\n");
+}
+
+/* Shoots a beam at all pieces of a list, and prints what it meets first. */
+static void shoot_list(const float *list, size_t len, const float ray[CURVE_RAY_FLOATS])
+{
+    float record[CURVE_RECORD_FLOATS];
+    size_t piece;
+    uint32_t number = curve_nearest(list, len, identity, identity, 0, ray, record, &piece);
+
+    print_met(number, record);
+    if (number == CURVE_HIT)
+        printf(" piece=%u", (unsigned)piece);
+    printf("\n");
 }
 
 static void measure(const float piece[CURVE_FLOATS])
@@ -77,21 +100,31 @@ static void measure(const float piece[CURVE_FLOATS])
 
 int main(void)
 {
-    float piece[CURVE_FLOATS];
+    static const float up[CURVE_RAY_FLOATS] = {0, 0, 0, 0, 0, 1, INFINITY, 0};
+    static const float aside[CURVE_RAY_FLOATS] = {10, 0, 0, 0, 0, 1, INFINITY, 0};
+    static const float down[CURVE_RAY_FLOATS] = {0, 0, 10, 0, 0, -1, INFINITY, 0};
+    float list[2 * CURVE_FLOATS];
+    float *first = list, *second = list + CURVE_FLOATS;
     uint32_t pieces;
 
-    lay(straight, 1, piece);
-    measure(piece);
-    shoot(piece, 0);
-    shoot(piece, 10);
+    lay(straight, 1, first);
+    measure(first);
+    shoot(first, up);
+    shoot(first, aside);
+
+    /* Of a belt alone the last crossing is told, here the lower deck; of both belts the nearest, the upper deck. */
+    lay(decks, 1, second);
+    shoot(first, down);
+    shoot(second, down);
+    shoot_list(list, 2 * CURVE_FLOATS, down);
 
     /* Across a belt that the beam goes along there is no direction. */
-    lay(along, 100, piece);
-    shoot(piece, 0);
+    lay(along, 100, first);
+    shoot(first, up);
 
     /* No belt has degree 4. */
     printf("refused=%u\n",
-           (unsigned)curve_create(straight, POINTS_FLOATS, 4, CURVE_BASIS_BEZIER, CURVE_TYPE_FLAT, 1, 1, 0, piece,
+           (unsigned)curve_create(straight, POINTS_FLOATS, 4, CURVE_BASIS_BEZIER, CURVE_TYPE_FLAT, 1, 1, 0, first,
                                   CURVE_FLOATS, &pieces));
     return 0;
 }

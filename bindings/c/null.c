@@ -37,6 +37,7 @@ int main(void)
     float bounds[CURVE_BOX_FLOATS], record[CURVE_RECORD_FLOATS], beams[CURVE_BEAMS_FLOATS];
     float area;
     uint32_t pieces = 77, looked;
+    size_t piece = 77;
     uint32_t out[CURVE_SHEET_NUMBERS];
 
     /* No points; no list, for a curve of one point and for one of four. */
@@ -53,6 +54,10 @@ int main(void)
     expect("curve_area", curve_area(NULL, 0, &area), CURVE_REFUSED_CURVE);
     expect("curve_intersect", curve_intersect(NULL, 0, identity, identity, 0, up, record, &looked),
            CURVE_REFUSED_CURVE);
+
+    /* No pieces. */
+    expect("curve_nearest", curve_nearest(NULL, 0, identity, identity, 0, up, record, &piece), CURVE_MISS);
+    expect("piece", (uint32_t)piece, 77);
 
     /* No sheet; no list. */
     expect("curve_sheet", curve_sheet(NULL, 0, NULL, 0, beams, out), CURVE_REFUSED_WRONG_LINE);

@@ -14,7 +14,7 @@
 
 #include "curve.h"
 
-enum { STACK = 1 << 20, PAINT = 0xa5, CALLS = 6, MOST_POINTS_FLOATS = 256 * 3, MOST_BYTES = 65536 };
+enum { STACK = 1 << 20, PAINT = 0xa5, CALLS = 7, MOST_POINTS_FLOATS = 256 * 3, MOST_BYTES = 65536 };
 
 /* What the calls are measured on. All of it is outside the stack. */
 static unsigned char stack[STACK];
@@ -22,11 +22,13 @@ static float points[MOST_POINTS_FLOATS];
 static float list[CURVE_MOST_PIECES * CURVE_FLOATS];
 static float beams[CURVE_BEAMS_FLOATS];
 static float swinging[CURVE_FLOATS];
+static float two[2 * CURVE_FLOATS];
 static char sheet[MOST_BYTES];
 static float bounds[CURVE_BOX_FLOATS];
 static float record[CURVE_RECORD_FLOATS];
 static float area;
 static uint32_t pieces, looked;
+static size_t piece;
 static uint32_t said[CURVE_SHEET_NUMBERS];
 
 /* From the origin up. */
@@ -48,6 +50,7 @@ static struct need needs[CALLS] = {
     {"curve_world_bound", CURVE_STACK_WORLD_BOUND, 0},
     {"curve_area", CURVE_STACK_AREA, 0},
     {"curve_intersect", CURVE_STACK_INTERSECT, 0},
+    {"curve_nearest", CURVE_STACK_NEAREST, 0},
     {"curve_sheet", CURVE_STACK_SHEET, 0},
 };
 
@@ -107,11 +110,19 @@ static void *measure(void *unused)
     MEASURE(4, curve_intersect(swinging, CURVE_FLOATS, mirror, mirror, 1, up, record, &looked), CURVE_HIT);
     MEASURE(4, curve_intersect(swinging, CURVE_FLOATS, mirror, mirror, 0, aside, record, &looked), CURVE_MISS);
 
+    /* The same over a list of two, and over one that is too short for two. */
+    MEASURE(5, curve_nearest(two, 2 * CURVE_FLOATS, mirror, mirror, 0, up, record, &piece), CURVE_HIT);
+    expect(piece == 0, "the first of two as near");
+    MEASURE(5, curve_nearest(two, 2 * CURVE_FLOATS, mirror, mirror, 1, up, record, &piece), CURVE_HIT);
+    MEASURE(5, curve_nearest(two, 2 * CURVE_FLOATS, mirror, mirror, 0, aside, record, &piece), CURVE_MISS);
+    MEASURE(5, curve_nearest(two, 2 * CURVE_FLOATS - 1, mirror, mirror, 0, up, record, &piece),
+            CURVE_REFUSED_LIST_LENGTH);
+
     /* A long sheet with every kind of line, and the same with a wrong last line. */
-    MEASURE(5, curve_sheet((const uint8_t *)sheet, strlen(sheet), list, sizeof list / sizeof *list, beams, said),
+    MEASURE(6, curve_sheet((const uint8_t *)sheet, strlen(sheet), list, sizeof list / sizeof *list, beams, said),
             CURVE_DONE);
     expect(said[CURVE_SHEET_BEAMS] == CURVE_MOST_BEAMS, "64 beams");
-    MEASURE(5, curve_sheet((const uint8_t *)sheet, strlen(sheet) - 1, list, sizeof list / sizeof *list, beams, said),
+    MEASURE(6, curve_sheet((const uint8_t *)sheet, strlen(sheet) - 1, list, sizeof list / sizeof *list, beams, said),
             CURVE_REFUSED_WRONG_LINE);
     return NULL;
 }
@@ -124,6 +135,8 @@ static void lay_swinging(void)
 
     expect(curve_create(swing, 12, 3, CURVE_BASIS_BEZIER, CURVE_TYPE_FLAT, width, width, 0, swinging, CURVE_FLOATS,
                         &pieces) == CURVE_DONE, "a piece");
+    memcpy(two, swinging, sizeof swinging);
+    memcpy(two + CURVE_FLOATS, swinging, sizeof swinging);
 }
 
 static void write_sheet(void)

@@ -4,7 +4,8 @@ use std::error::Error;
 use std::fmt;
 
 /// Why a call was refused. Of several reasons the one that comes first in the call's order is told: by the
-/// numbers, and 12 and 13 as the ray's frame meets them.
+/// numbers, and 12 and 13 as the ray's frame meets them. Of [`nearest`](crate::nearest) 19, 10 and 11 come before
+/// those of a curve.
 #[derive(Clone, Copy, Debug, PartialEq, Eq, Hash)]
 pub enum Refusal {
     /// 1: the degree is not 2 or 3.
@@ -43,10 +44,12 @@ pub enum Refusal {
     WrongLine = 17,
     /// 18: the sheet has over 65,536 bytes.
     SheetTooLong = 18,
+    /// 19: the length of the list is no whole number of curves.
+    ListLength = 19,
 }
 
 /// By number, from 1.
-const ALL: [Refusal; 18] = [
+const ALL: [Refusal; 19] = [
     Refusal::Degree,
     Refusal::Basis,
     Refusal::PointCount,
@@ -65,10 +68,11 @@ const ALL: [Refusal; 18] = [
     Refusal::ZeroNormal,
     Refusal::WrongLine,
     Refusal::SheetTooLong,
+    Refusal::ListLength,
 ];
 
 impl Refusal {
-    /// The number of the refusal, from 1 to 18.
+    /// The number of the refusal, from 1 to 19.
     pub fn number(self) -> u32 {
         self as u32
     }
@@ -108,6 +112,7 @@ impl fmt::Display for Refusal {
             Refusal::ZeroNormal => "the normal or the way back has length zero at the hit",
             Refusal::WrongLine => "a line of the sheet is wrong or missing",
             Refusal::SheetTooLong => "the sheet has over 65,536 bytes",
+            Refusal::ListLength => "the length of the list is no whole number of curves",
         })
     }
 }
