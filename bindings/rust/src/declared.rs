@@ -37,6 +37,16 @@ extern "C" {
         record: *mut [f32; RECORD_FLOATS],
         looked: *mut u32,
     ) -> u32;
+    pub fn curve_nearest(
+        list: *const f32,
+        len: usize,
+        object_to_world: *const [f32; MATRIX_FLOATS],
+        world_to_object: *const [f32; MATRIX_FLOATS],
+        reverse: u32,
+        ray: *const [f32; RAY_FLOATS],
+        record: *mut [f32; RECORD_FLOATS],
+        piece: *mut usize,
+    ) -> u32;
     pub fn curve_sheet(
         bytes: *const u8,
         len: usize,

@@ -1,7 +1,7 @@
 //! The calls of the static library. All that is unsafe is here.
 //!
-//! Each function answers the library's number first, 0 or a refusal (1 is a miss in `intersect`), and then
-//! what the library wrote, which means something only with the numbers that the header names.
+//! Each function answers the library's number first, 0 or a refusal (1 is a miss in `intersect` and `nearest`), and
+//! then what the library wrote, which means something only with the numbers that the header names.
 
 use crate::declared::*;
 use crate::layout::{BEAMS_FLOATS, BOX_FLOATS, RAY_FLOATS, RECORD_FLOATS, SHEET_NUMBERS};
@@ -84,6 +84,33 @@ pub fn intersect(
     };
 
     (number, record, looked)
+}
+
+/// The record and the piece's number in the list go with 0.
+pub fn nearest(
+    list: &[f32],
+    object_to_world: &Matrix4x4,
+    world_to_object: &Matrix4x4,
+    reverse: bool,
+    ray: &[f32; RAY_FLOATS],
+) -> (u32, [f32; RECORD_FLOATS], usize) {
+    let mut record = [0.0; RECORD_FLOATS];
+    let mut piece = 0;
+    // SAFETY: `list` goes with its own length, and `record` and `piece` are new.
+    let number = unsafe {
+        curve_nearest(
+            list.as_ptr(),
+            list.len(),
+            object_to_world,
+            world_to_object,
+            reverse as u32,
+            ray,
+            &mut record,
+            &mut piece,
+        )
+    };
+
+    (number, record, piece)
 }
 
 /// The beams' floats go with 0, and so does what is said of the sheet, but for the line, which goes with other

@@ -3,8 +3,8 @@
 //! pbrt-rust does.
 //!
 //! [`create_curve_shape`] lays curves into a list, [`CURVE_FLOATS`] floats each: four control points, two widths,
-//! umin and umax. The other calls take one curve out of it. Every call ends with an answer or with a
-//! [`Refusal`], for every input, and a refusal leaves the list as it was. Nothing panics, and nothing is
+//! umin and umax. [`nearest`] takes such a list, the other calls one curve out of it. Every call ends with an answer or
+//! with a [`Refusal`], for every input, and a refusal leaves the list as it was. Nothing panics, and nothing is
 //! allocated but the beams of a [`Sheet`]. Lengths are in metres.
 //!
 //! # The floating-point environment
@@ -172,6 +172,15 @@ pub enum Intersection {
     Miss(u32),
 }
 
+/// The nearest of all places where a ray meets a list of curves, if it meets one.
+#[derive(Clone, Copy, Debug, PartialEq)]
+pub enum Nearest {
+    /// The hit, and the number of its curve in the list, from 0.
+    Hit(SurfaceInteraction, usize),
+    /// It meets none.
+    Miss,
+}
+
 /// What a belt sheet says. Its curves are in the list that was lent.
 #[derive(Clone, Debug, PartialEq)]
 pub struct Sheet {
@@ -255,6 +264,62 @@ pub fn intersect(
     }
 }
 
+/// Where a ray meets a list of curves, [`CURVE_FLOATS`] floats each, at the least distance of all its crossings with
+/// all of them; of those as near, at the first of the earliest curve. `reverse` says whether normals turn. An empty
+/// list is missed.
+///
+/// [`intersect`] tells a curve's last crossing, so the nearest of its answers can lie further.
+///
+/// # Errors
+///
+/// [`Refusal::ListLength`], then [`Refusal::Matrix`] or [`Refusal::Ray`], then the first of [`Refusal`] 9 and 12 to 16
+/// that is met, curve by curve. A crossing without a frame (14 to 16) is told also where a nearer one was found.
+///
+/// # Example
+///
+/// A belt that runs out at z = -4 and comes back below, at z = -8, under a beam down from the origin:
+///
+/// ```
+/// use curve::{intersect, nearest, Intersection, Nearest, Ray, IDENTITY};
+///
+/// let decks = [
+///     -9.0, 0.0, -4.0, 7.0, 0.0, -4.0, 7.0, 0.0, -8.0, -9.0, 0.0, -8.0, // four points
+///     1.0, 1.0, 0.0, 1.0, // two widths, umin and umax
+/// ];
+/// let ray = Ray {
+///     o: [0.0, 0.0, 0.0],
+///     d: [0.0, 0.0, -1.0],
+///     t_max: f32::INFINITY,
+///     time: 0.0,
+/// };
+/// match nearest(&decks, &IDENTITY, &IDENTITY, false, &ray)? {
+///     Nearest::Hit(hit, curve) => assert_eq!((hit.t_hit, curve), (4.625, 0)),
+///     Nearest::Miss => panic!("the beam misses"),
+/// }
+/// match intersect(&decks, &IDENTITY, &IDENTITY, false, &ray)? {
+///     Intersection::Hit(hit, _) => assert_eq!(hit.t_hit, 7.375),
+///     Intersection::Miss(_) => panic!("the beam misses"),
+/// }
+/// # Ok::<(), curve::Refusal>(())
+/// ```
+pub fn nearest(
+    list: &[f32],
+    object_to_world: &Matrix4x4,
+    world_to_object: &Matrix4x4,
+    reverse: bool,
+    ray: &Ray,
+) -> Result<Nearest, Refusal> {
+    let ray = ray.to_floats();
+    match ffi::nearest(list, object_to_world, world_to_object, reverse, &ray) {
+        (0, record, curve) => Ok(Nearest::Hit(
+            SurfaceInteraction::from_floats(&record),
+            curve,
+        )),
+        (1, ..) => Ok(Nearest::Miss),
+        (number, ..) => Err(refused(number)),
+    }
+}
+
 /// Reads a belt sheet and lays its curves into the list.
 ///
 /// # Errors
@@ -284,7 +349,7 @@ fn accepted<T>(number: u32, value: T) -> Result<T, Refusal> {
 }
 
 fn refused(number: u32) -> Refusal {
-    Refusal::from_number(number).expect("the library answers 0 to 18")
+    Refusal::from_number(number).expect("the library answers 0 to 19")
 }
 
 /// The three floats at a place.

@@ -1,7 +1,9 @@
 //! Beams: hits, misses, and what is refused.
 
-use crate::common::{curve_of, straight, STRAIGHT, UP, WRONG_LENGTHS};
-use curve::{intersect, Intersection, Ray, Refusal, SurfaceInteraction, IDENTITY, UMAX, UMIN};
+use crate::common::{
+    along, curve_of, off_limits, out_and_back, straight, STRAIGHT, UP, WRONG_LENGTHS,
+};
+use curve::{intersect, Intersection, Ray, Refusal, SurfaceInteraction, IDENTITY, UMAX};
 
 fn shot(curve: &[f32], ray: &Ray) -> Result<Intersection, Refusal> {
     intersect(curve, &IDENTITY, &IDENTITY, false, ray)
@@ -125,17 +127,9 @@ fn a_miss_counts_where_it_looked() {
     }
 }
 
-/// 01's belt of width 100.
 #[test]
 fn a_belt_along_the_beam_is_refused_by_15() {
-    let along = [
-        [-1.0, 0.0, 4.0],
-        [1.0, 0.0, 5.0],
-        [-1.0, 0.0, 6.0],
-        [1.0, 0.0, 7.0],
-    ];
-    let answer = shot(&curve_of(&along, 100.0), &UP);
-    assert_eq!(answer, Err(Refusal::ZeroAcross));
+    assert_eq!(shot(&along(), &UP), Err(Refusal::ZeroAcross));
 }
 
 #[test]
@@ -144,9 +138,7 @@ fn a_curve_off_limits_is_refused() {
     for len in WRONG_LENGTHS {
         assert_eq!(shot(&twice[..len], &UP), Err(Refusal::Curve));
     }
-    let mut curve = straight();
-    curve[UMAX] = curve[UMIN];
-    assert_eq!(shot(&curve, &UP), Err(Refusal::Curve));
+    assert_eq!(shot(&off_limits(), &UP), Err(Refusal::Curve));
 }
 
 #[test]
@@ -192,15 +184,14 @@ fn no_direction_is_refused() {
     assert_eq!(shot(&straight(), &still), Err(Refusal::NoFrame));
 }
 
-/// Out and back over itself: where it turns, the derivative and the chord are zero.
+/// Where it turns, the derivative and the chord are zero.
 #[test]
 fn a_turning_point_is_refused_by_14() {
-    let [a, b] = [[0.0, 0.0, 4.0], [4.0, 0.0, 4.0]];
     let ray = Ray {
         o: [3.0, 0.0, 0.0],
         ..UP
     };
-    let mut first_half = curve_of(&[a, b, b, a], 1.0);
+    let mut first_half = out_and_back();
     first_half[UMAX] = 0.5;
     assert_eq!(shot(&first_half, &ray), Err(Refusal::ZeroDerivative));
 }

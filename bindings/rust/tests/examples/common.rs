@@ -1,6 +1,6 @@
 //! 01's straight belt, its beam, and lists.
 
-use curve::{Basis, CurveType, Params, Ray, CURVE_FLOATS, MOST_CURVES};
+use curve::{Basis, CurveType, Params, Ray, CURVE_FLOATS, MOST_CURVES, UMAX, UMIN};
 
 pub const CUBIC_BEZIER: Params = Params {
     degree: 3,
@@ -52,4 +52,31 @@ pub fn curve_of(points: &[[f32; 3]; 4], width: f32) -> [f32; CURVE_FLOATS] {
 
 pub fn straight() -> [f32; CURVE_FLOATS] {
     curve_of(&STRAIGHT, 1.0)
+}
+
+/// 01's belt of width 100, from z = 4 to 7, which a beam up goes along: refused by 15.
+pub fn along() -> [f32; CURVE_FLOATS] {
+    let points = [
+        [-1.0, 0.0, 4.0],
+        [1.0, 0.0, 5.0],
+        [-1.0, 0.0, 6.0],
+        [1.0, 0.0, 7.0],
+    ];
+
+    curve_of(&points, 100.0)
+}
+
+/// Over itself at z = 4, from x = 0 to 3 and back.
+pub fn out_and_back() -> [f32; CURVE_FLOATS] {
+    let [a, b] = [[0.0, 0.0, 4.0], [4.0, 0.0, 4.0]];
+
+    curve_of(&[a, b, b, a], 1.0)
+}
+
+/// From u = 0 to 0.
+pub fn off_limits() -> [f32; CURVE_FLOATS] {
+    let mut curve = straight();
+    curve[UMAX] = curve[UMIN];
+
+    curve
 }

@@ -4,5 +4,6 @@ mod beam;
 mod boxes;
 mod common;
 mod laying;
+mod nearest;
 mod refusal;
 mod sheet;
