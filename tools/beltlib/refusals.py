@@ -1,4 +1,4 @@
-"""Why a sheet or a beam is refused, by the number that beltbeam prints."""
+"""Why a call is refused, by number. beltbeam prints those of a sheet or a beam."""
 
 REASONS = {
     1: "the degree is not 2 or 3",
@@ -19,11 +19,12 @@ REASONS = {
     16: "the normal or the way back has length zero at the hit",
     17: "a line of the sheet is wrong",
     18: "the sheet has over 65,536 bytes",
+    19: "the list is no whole number of pieces",
 }
 
 # Which of them are told of a beam, and which of a whole sheet; one of these comes with a line.
 OF_BEAM = range(9, 17)
-OF_SHEET = [number for number in REASONS if number not in OF_BEAM]
+OF_SHEET = [*range(1, 9), 17, 18]
 WRONG_LINE = 17
 
 

@@ -66,8 +66,8 @@ beam 0: 1 hit, 0 misses
         self.assertIn("hit     inf  nan  nan\n", table("pieces=1\n" + line))
 
     def test_every_refusal_has_its_reason(self) -> None:
-        self.assertEqual(sorted(REASONS), list(range(1, 19)))
-        self.assertEqual(len(set(REASONS.values())), 18)
+        self.assertEqual(sorted(REASONS), list(range(1, 20)))
+        self.assertEqual(len(set(REASONS.values())), 19)
 
 
 class RefusedSheets(unittest.TestCase):
@@ -118,6 +118,7 @@ class BadReports(unittest.TestCase):
         self.refuse("refused=17 line=0\n", "in:1: expected a line with refusal 17 alone")
         self.refuse("pieces=1\nbeam=0 piece=0 refused=99\n", "in:2: expected a refusal of a beam")
         self.refuse("pieces=1\nbeam=0 piece=0 refused=17\n", "in:2: expected a refusal of a beam")
+        self.refuse("pieces=1\nbeam=0 piece=0 refused=19\n", "in:2: expected a refusal of a beam")
 
     def test_not_whole_or_not_in_order(self) -> None:
         self.refuse("pieces=2\n" + HIT, "in:3: the report ends here, expected beam=0 piece=1")
