@@ -4,7 +4,7 @@
 
 use crate::cubic;
 use crate::layout::{MATRIX_FLOATS, RAY_FLOATS, UMAX, UMIN};
-use crate::ours::{self, Answer};
+use crate::ours::{self, Answer, List};
 use crate::piece::{self, Piece};
 use crate::vector::{cross, difference, length, normal, scaled, sum, Vector};
 use std::sync::Arc;
@@ -22,6 +22,15 @@ pub struct Beam {
     pub place: Arc<Place>,
     pub reverse: bool,
     pub ray: [f32; RAY_FLOATS],
+}
+
+/// The pieces of a belt, which stand at one place, and rays at them.
+pub struct Hall {
+    pub belt: Belt,
+    pub list: Box<List>,
+    pub place: Place,
+    pub reverse: bool,
+    pub rays: Vec<[f32; RAY_FLOATS]>,
 }
 
 /// What laying takes.
@@ -119,6 +128,34 @@ fn chosen(
         .collect()
 }
 
+/// Spirals of 1,024 pieces in four decks, of which most beams cross one or more and all pass by nearly every piece. The
+/// Rust tells a piece's last crossing and ours its nearest: these pieces are so short that they are not cut in two, and
+/// have at most one.
+pub fn halls() -> Vec<Hall> {
+    let mut rng = Rng(9);
+
+    (0..4).map(|_| hall(&mut rng)).collect()
+}
+
+fn hall(rng: &mut Rng) -> Hall {
+    let belt = spiral(rng);
+    let mut list = Box::new([0.0; ours::LIST]);
+    ours::laid(&belt, &mut list);
+    let place = place(rng);
+    let m = &place.object_to_world;
+    let rays = (0..16)
+        .map(|_| in_hall(m, line_through(rng, &belt), 1.0))
+        .collect();
+
+    Hall {
+        belt,
+        list,
+        place,
+        reverse: rng.below(2) == 0,
+        rays,
+    }
+}
+
 // Pieces, belts and places.
 
 /// Bent belts, each with a place of its own for its box in the hall.
@@ -170,6 +207,13 @@ pub fn spiral(rng: &mut Rng) -> Belt {
 
 /// From above or below through the spiral, where its points are.
 pub fn ray_through(rng: &mut Rng, belt: &Belt) -> [f32; RAY_FLOATS] {
+    let [origin, direction] = line_through(rng, belt);
+
+    floats(origin, direction, f32::INFINITY)
+}
+
+/// Its origin and its direction.
+fn line_through(rng: &mut Rng, belt: &Belt) -> [Vector; 2] {
     let i = 3 * rng.below(belt.points.len() as u64 / 3) as usize;
     let aim: Vector = std::array::from_fn(|k| belt.points[i + k] as f64);
     let aim = sum(aim, rng.vector(0.4));
@@ -177,7 +221,7 @@ pub fn ray_through(rng: &mut Rng, belt: &Belt) -> [f32; RAY_FLOATS] {
     let direction = scaled(direction, if rng.below(2) == 0 { 1.0 } else { -1.0 });
     let origin = difference(aim, scaled(direction, rng.between(10.0, 20.0)));
 
-    floats(origin, direction, f32::INFINITY)
+    [origin, direction]
 }
 
 /// One of up to eight parts of a curve with points within 4 of its middle, the width 1/50 to 1/2.
@@ -284,19 +328,22 @@ fn aimed(rng: &mut Rng, piece: Piece, place: &Arc<Place>, beside: f64) -> Beam {
     } else {
         rng.between(0.1, 10.0)
     };
-    let m = &place.object_to_world;
-    let world = floats(
-        transformed(m, origin, 1.0),
-        scaled(transformed(m, direction, 0.0), speed),
-        f32::INFINITY,
-    );
 
     Beam {
         piece,
         place: place.clone(),
         reverse: rng.below(2) == 0,
-        ray: world,
+        ray: in_hall(&place.object_to_world, [origin, direction], speed),
     }
+}
+
+/// From the belt's own frame.
+fn in_hall(m: &Matrix, [origin, direction]: [Vector; 2], speed: f64) -> [f32; RAY_FLOATS] {
+    floats(
+        transformed(m, origin, 1.0),
+        scaled(transformed(m, direction, 0.0), speed),
+        f32::INFINITY,
+    )
 }
 
 /// A point with the weight 1, or a vector with 0.

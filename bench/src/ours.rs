@@ -1,7 +1,7 @@
 //! The library's C functions, and how they are timed.
 
-use crate::draw::{Beam, Belt, Matrix};
-use crate::layout::{BOX_FLOATS, CURVE_FLOATS, MOST_CURVES};
+use crate::draw::{Beam, Belt, Hall, Matrix};
+use crate::layout::{BOX_FLOATS, CURVE_FLOATS, MOST_CURVES, RAY_FLOATS};
 use crate::piece::Piece;
 use crate::record::Record;
 use declared::*;
@@ -14,6 +14,8 @@ use std::time::{Duration, Instant};
 mod declared;
 
 pub const LIST: usize = CURVE_FLOATS * MOST_CURVES;
+
+pub type List = [f32; LIST];
 
 #[derive(Default)]
 pub struct Answer {
@@ -49,7 +51,39 @@ fn intersect(beam: &Beam, answer: &mut Answer) {
     };
 }
 
-pub fn laid(belt: &Belt, list: &mut [f32; LIST]) -> u32 {
+/// Of a list.
+#[derive(Default)]
+pub struct Nearest {
+    /// 0 a hit, 1 a miss, else a refusal.
+    pub status: u32,
+    pub piece: usize,
+    pub record: Record,
+}
+
+pub fn nearest_answer(hall: &Hall, ray: &[f32; RAY_FLOATS]) -> Nearest {
+    let mut answer = Nearest::default();
+    nearest(hall, ray, &mut answer);
+
+    answer
+}
+
+fn nearest(hall: &Hall, ray: &[f32; RAY_FLOATS], answer: &mut Nearest) {
+    let Hall { list, place, .. } = hall;
+    answer.status = unsafe {
+        curve_nearest(
+            list.as_ptr(),
+            list.len(),
+            &place.object_to_world,
+            &place.world_to_object,
+            hall.reverse as u32,
+            ray,
+            &mut answer.record,
+            &mut answer.piece,
+        )
+    };
+}
+
+pub fn laid(belt: &Belt, list: &mut List) -> u32 {
     let mut pieces = 0;
     let status = unsafe {
         curve_create(
@@ -90,6 +124,21 @@ pub fn time_beams(beams: &[Beam], times: u32) -> Duration {
         for beam in beams {
             intersect(black_box(beam), &mut answer);
             black_box(&mut answer);
+        }
+    }
+
+    start.elapsed()
+}
+
+pub fn time_nearest(halls: &[Hall], times: u32) -> Duration {
+    let mut answer = Nearest::default();
+    let start = Instant::now();
+    for _ in 0..times {
+        for hall in halls {
+            for ray in &hall.rays {
+                nearest(black_box(hall), ray, &mut answer);
+                black_box(&mut answer);
+            }
         }
     }
 

@@ -1,12 +1,12 @@
 //! The rows of the table: inputs, both sides, and that both give the same.
 
 use crate::draw::{self, Beam, Belt, Place};
-use crate::layout::BOX_FLOATS;
+use crate::layout::{BOX_FLOATS, MOST_CURVES};
 use crate::piece::{self, Piece};
+use crate::record::Record;
 use crate::time::Timed;
 use crate::{mix, ours, rust, sheet};
 use pbrt::core::shape::{Shape, Shapes};
-use pbrt::core::transform::Transform;
 use std::path::{Path, PathBuf};
 use std::sync::Arc;
 
@@ -37,6 +37,11 @@ const LOOK: Unit = Unit {
     scale: 1.0e9,
     thing: "looked piece",
 };
+const PIECE: Unit = Unit {
+    name: "ns per piece",
+    scale: 1.0e9,
+    thing: "piece",
+};
 const LAYING: Unit = Unit {
     name: "µs per 1,024 pieces",
     scale: 1.0e6,
@@ -48,8 +53,9 @@ const SHEET: Unit = Unit {
     thing: "sheet",
 };
 
-pub const NAMES: [&str; 11] = [
-    "thrown", "miss", "hit", "deep", "mix", "segment", "spline", "box", "hall", "area", "sheet",
+pub const NAMES: [&str; 12] = [
+    "thrown", "miss", "hit", "deep", "mix", "nearest", "segment", "spline", "box", "hall", "area",
+    "sheet",
 ];
 
 pub fn row(target: &Path, name: &str) -> Option<Row> {
@@ -59,6 +65,7 @@ pub fn row(target: &Path, name: &str) -> Option<Row> {
         "hit" => beams("a hit at depth 0", draw::plain_hit()),
         "deep" => deep(),
         "mix" => mixed(target),
+        "nearest" => nearest(),
         "segment" => laying("laying one segment, split 10", draw::segments()),
         "spline" => laying("laying a B-spline, split 3", draw::splines()),
         "box" => boxes(),
@@ -131,15 +138,44 @@ fn mixed(target: &Path) -> Row {
     )
 }
 
+fn nearest() -> Row {
+    let halls = draw::halls();
+    let scenes: Vec<_> = halls.iter().map(rust::scene).collect();
+    for (hall, scene) in halls.iter().zip(&scenes) {
+        for ray in &hall.rays {
+            assert_same_nearest(&ours::nearest_answer(hall, ray), scene.answer(ray));
+        }
+    }
+    let rays: usize = halls.iter().map(|hall| hall.rays.len()).sum();
+
+    Row {
+        title: "the nearest of 1,024 pieces",
+        unit: PIECE,
+        units: rays * MOST_CURVES,
+        ours: Box::new(move |times| ours::time_nearest(&halls, times)),
+        rust: Box::new(move |times| rust::time_nearest(&scenes, times)),
+    }
+}
+
+fn assert_same_nearest(ours: &ours::Nearest, rust: Option<(Record, usize)>) {
+    match rust {
+        Some((record, piece)) => {
+            assert_eq!((ours.status, ours.piece), (0, piece));
+            assert!(same(&ours.record, &record));
+        }
+        None => assert_eq!(ours.status, 1),
+    }
+}
+
 // Curves.
 
 fn laying(title: &'static str, belts: Vec<Belt>) -> Row {
     let params: Vec<_> = belts.iter().map(rust::params).collect();
-    let identity = Arc::new(Transform::default());
+    let identity = rust::identity();
     for (belt, params) in belts.iter().zip(&params) {
         let mut list = Box::new([0.0; ours::LIST]);
         assert_eq!(ours::laid(belt, &mut list), 1024);
-        let shapes = rust::laid(params, &identity);
+        let shapes = rust::laid(params, &identity, false);
         let pieces = piece::from_shapes(&shapes);
         assert!(same(list.as_slice(), pieces.as_flattened()));
     }

@@ -1,8 +1,9 @@
 //! The unchanged Rust on the same inputs, and how it is timed. Curves, transforms and sets of parameters are
 //! made beforehand, as a scene's are; a ray is made for each call, and so is the handle on the shape that
-//! `intersect` takes as `s`. The interaction that it fills is the caller's, and is made once.
+//! `intersect` takes as `s`. The interaction that it fills is the caller's, and is made once. The nearest of a list is
+//! found by `intersect` on each of its curves.
 
-use crate::draw::{Beam, Belt, Matrix, Place};
+use crate::draw::{Beam, Belt, Hall, Matrix, Place};
 use crate::layout::{BOX_FLOATS, RAY_FLOATS};
 use crate::params;
 use crate::piece::{self, Piece, Transforms};
@@ -82,13 +83,62 @@ impl Aimed {
     }
 
     fn intersect(&self, t: &mut f32, isect: &mut SurfaceInteraction) -> bool {
-        let [ox, oy, oz, dx, dy, dz, t_max, time] = self.ray;
-        let o = Point3f::new(ox, oy, oz);
-        let d = Vector3f::new(dx, dy, dz);
-        let ray = Ray::new(&o, &d, t_max, time, None, None);
+        intersect(&self.shape, &ray(&self.ray), t, isect)
+    }
+}
 
-        self.shape
-            .intersect(&ray, t, isect, false, Some(self.shape.clone()))
+fn intersect(shape: &Arc<Shapes>, ray: &Ray, t: &mut f32, isect: &mut SurfaceInteraction) -> bool {
+    shape.intersect(ray, t, isect, false, Some(shape.clone()))
+}
+
+fn ray(&[ox, oy, oz, dx, dy, dz, t_max, time]: &[f32; RAY_FLOATS]) -> Ray {
+    let o = Point3f::new(ox, oy, oz);
+    let d = Vector3f::new(dx, dy, dz);
+
+    Ray::new(&o, &d, t_max, time, None, None)
+}
+
+/// The curves of a hall, and the rays at them.
+pub struct Scene {
+    shapes: Vec<Arc<Shapes>>,
+    rays: Vec<[f32; RAY_FLOATS]>,
+}
+
+pub fn scene(hall: &Hall) -> Scene {
+    Scene {
+        shapes: laid(&params(&hall.belt), &transforms(&hall.place), hall.reverse),
+        rays: hall.rays.clone(),
+    }
+}
+
+/// What `intersect` fills, for the curve at hand and for the nearest so far.
+#[derive(Default)]
+struct Met {
+    t: f32,
+    isect: SurfaceInteraction<'static>,
+}
+
+impl Scene {
+    /// The record of the nearest hit, as ours has it, and its curve's number.
+    pub fn answer(&self, ray: &[f32; RAY_FLOATS]) -> Option<(Record, usize)> {
+        let [mut met, mut best] = [Met::default(), Met::default()];
+        let piece = self.nearest(ray, &mut met, &mut best);
+
+        piece.map(|piece| (record(best.t, &best.isect), piece))
+    }
+
+    fn nearest(&self, floats: &[f32; RAY_FLOATS], met: &mut Met, best: &mut Met) -> Option<usize> {
+        let ray = ray(floats);
+        let mut piece = None;
+        best.t = f32::INFINITY;
+        for (k, shape) in self.shapes.iter().enumerate() {
+            if intersect(shape, &ray, &mut met.t, &mut met.isect) && met.t < best.t {
+                std::mem::swap(met, best);
+                piece = Some(k);
+            }
+        }
+
+        piece
     }
 }
 
@@ -105,8 +155,17 @@ pub fn params(belt: &Belt) -> ParamSet {
     params::set(3, basis, belt.widths, belt.split, &belt.points)
 }
 
-pub fn laid(params: &ParamSet, identity: &Arc<Transform>) -> Vec<Arc<Shapes>> {
-    curve::create_curve_shape(identity.clone(), identity.clone(), false, params)
+/// Where a belt that is only laid stands.
+pub fn identity() -> Transforms {
+    let identity = Arc::new(Transform::default());
+
+    [identity.clone(), identity]
+}
+
+pub fn laid(params: &ParamSet, transforms: &Transforms, reverse: bool) -> Vec<Arc<Shapes>> {
+    let [object_to_world, world_to_object] = transforms.clone();
+
+    curve::create_curve_shape(object_to_world, world_to_object, reverse, params)
 }
 
 pub fn time_beams(beams: &[Aimed], times: u32) -> Duration {
@@ -123,14 +182,29 @@ pub fn time_beams(beams: &[Aimed], times: u32) -> Duration {
     start.elapsed()
 }
 
+pub fn time_nearest(scenes: &[Scene], times: u32) -> Duration {
+    let [mut met, mut best] = [Met::default(), Met::default()];
+    let start = Instant::now();
+    for _ in 0..times {
+        for scene in scenes {
+            for ray in &scene.rays {
+                black_box(black_box(scene).nearest(ray, &mut met, &mut best));
+                black_box(&mut best);
+            }
+        }
+    }
+
+    start.elapsed()
+}
+
 /// The shapes are given back to the allocator outside of the time.
 pub fn time_laying(params: &[ParamSet], times: u32) -> Duration {
-    let identity = Arc::new(Transform::default());
+    let identity = identity();
     let mut time = Duration::ZERO;
     for _ in 0..times {
         for set in params {
             let start = Instant::now();
-            let shapes = black_box(laid(black_box(set), &identity));
+            let shapes = black_box(laid(black_box(set), &identity, false));
             time += start.elapsed();
             drop(shapes);
         }
