@@ -3,7 +3,7 @@ ghost use mathlib.Core.Path.{_≡_};
 ghost use Prim.Native.Nat.{_≤_};
 ghost use lib.ListN.{length};
 ghost use Rattle.curve.specs.Layout.{floats, curveFrom};
-ghost use Rattle.frame.specs.Frame.{upVector, rayFrame, pairOf, joinedPairs, projectedCubic, aimOf, aimedOf, viewOf, inRayFrame, framedPoints, framedAlong, framedCurve};
+ghost use Rattle.frame.specs.Frame.{upVector, rayFrame, pairOf, joinedPairs, projectedCubic, aimOf, aimedOf, viewOf, inRayFrame, framedPoints, framedAlong};
 use bezier::Cubic;
 use bezier::cubic_in;
 use curve::control_points;
@@ -180,20 +180,10 @@ fn frame_points(cp: Cubic, a: Aim) -> Framed
     }
 }
 
-// The curve, here and below, is one that passed refusal 9.
+// The curve is one that passed refusal 9.
 pub fn frame_aimed(curve: &[f32], a: Aim) -> Framed
     requires { ⌜ floats ≤ length (now curve) ⌝ }
     ensures { λ f. ⌜ f ≡ framedAlong (curveFrom (now (curve .entry))) a ⌝ }
 {
     frame_points(cubic_in(&control_points(curve)), a)
-}
-
-pub fn frame_curve(curve: &[f32], world_to_object: Matrix4x4, r: Ray) -> Framed
-    requires { ⌜ floats ≤ length (now curve) ⌝ }
-    ensures { λ f. ⌜ f ≡ framedCurve (curveFrom (now (curve .entry))) «world_to_object» r ⌝ }
-{
-    match aim_ray(world_to_object, r) {
-        Aimed::Ray(a) => frame_aimed(curve, a),
-        Aimed::ZeroWeight => Framed::ZeroWeight,
-    }
 }

@@ -16,4 +16,3 @@ pub use frame::Framed;
 pub use frame::View;
 pub use frame::aim_ray;
 pub use frame::frame_aimed;
-pub use frame::frame_curve;

@@ -68,10 +68,6 @@ intersectFramed c flip (framed.Curve ray v cp) = intersectWhole c ray flip v (wh
 intersectFramed c flip framed.ZeroWeight = Refused 12
 intersectFramed c flip framed.ZeroLength = Refused 13
 
--- of a curve within the limits
-unfoldable pub intersectWithin : Curve → Matrix4x4 → Matrix4x4 → Bool → Ray → Intersection
-intersectWithin c o2w w2o reverse r = told Refused (firstOf (rayRefusals o2w w2o r)) (intersectFramed c (flipsOf reverse o2w) (framedCurve c w2o r))
-
 -- 9, 10, 11
 unfoldable pub intersectRefusals : List Float → Matrix4x4 → Matrix4x4 → Ray → Table
 intersectRefusals l o2w w2o r = (not (isCurve l), 9) ∷ rayRefusals o2w w2o r

@@ -4,12 +4,13 @@ ghost use mathlib.Core.Path.{_≡_};
 ghost use Prim.Native.Nat.{_≤_};
 ghost use lib.ListN.{length};
 ghost use Rattle.curve.specs.Layout.{floats, curveFrom};
+ghost use Rattle.frame.specs.Frame.{framedAlong, withAim};
 ghost use Rattle.walk.specs.Walk.{lastIn};
-ghost use Rattle.intersect.specs.Intersect.{replyOf, intersectWhole, intersectFramed, intersectWithin, intersectOf};
+ghost use Rattle.intersect.specs.Intersect.{replyOf, intersectFramed, intersectOf};
 use curve::is_curve;
-use frame::Framed;
-use frame::View;
-use frame::frame_curve;
+use frame::Aim;
+use frame::Aimed;
+use frame::aim_ray;
 use geometry::Ray;
 pub use interaction::SurfaceInteraction;
 use leaf::FOUND;
@@ -19,11 +20,10 @@ use leaf::frame_in;
 use leaf::record_at;
 use limits::ray_refusal;
 use matrix::Matrix4x4;
-use overlap::Subcurve;
-use overlap::whole;
+use walk::HIT;
+use walk::MISS;
 use walk::Rule;
-use walk::Walked;
-use walk::walk_whole;
+use walk::walk_aimed;
 
 // A hit with its record, or a miss, each with the number of subcurves looked at; or a refusal by its
 // number.
@@ -40,62 +40,43 @@ fn finish(
     flip: bool,
     found: &[f32; FOUND],
     n: u32,
-    w: Walked,
+    w: u8,
 ) -> Intersection
     requires { ⌜ floats ≤ length (now curve) ⌝ }
     ensures { λ r. ⌜ r ≡ replyOf (curveFrom (now (curve .entry))) ray flip n (lastIn w (now (found .entry))) ⌝ }
 {
-    match w {
-        Walked::Hit => {
-            let record = record_at(curve, ray, flip, crossing_in(found), frame_in(found));
-            Intersection::Hit(record, n)
-        }
-        Walked::Miss => Intersection::Miss(n),
-        Walked::Refused(number) => Intersection::Refused(number),
+    if w == HIT {
+        let record = record_at(curve, ray, flip, crossing_in(found), frame_in(found));
+        Intersection::Hit(record, n)
+    } else if w == MISS {
+        Intersection::Miss(n)
+    } else {
+        Intersection::Refused(w)
     }
 }
 
-fn intersect_whole(curve: &[f32], ray: Ray, flip: bool, v: View, s: Subcurve) -> Intersection
+fn intersect_along(curve: &[f32], flip: bool, a: Aim) -> Intersection
     requires { ⌜ floats ≤ length (now curve) ⌝ }
-    ensures { λ r. ⌜ r ≡ intersectWhole (curveFrom (now (curve .entry))) ray flip v s ⌝ }
+    ensures { λ r. ⌜ r ≡ intersectFramed (curveFrom (now (curve .entry))) flip (framedAlong (curveFrom (now (curve .entry))) a) ⌝ }
 {
     let mut found = [0.0f32; FOUND];
     let mut looked = 0u32;
-    let walked = walk_whole(curve, v, s, Rule::Last, &mut found, &mut looked);
-    finish(curve, ray, flip, &found, looked, walked)
+    let w = walk_aimed(curve, a, Rule::Last, &mut found, &mut looked);
+    finish(curve, a.ray, flip, &found, looked, w)
 }
 
-fn intersect_framed(curve: &[f32], flip: bool, f: Framed) -> Intersection
+fn intersect_aimed(curve: &[f32], flip: bool, aimed: Aimed) -> Intersection
     requires { ⌜ floats ≤ length (now curve) ⌝ }
-    ensures { λ r. ⌜ r ≡ intersectFramed (curveFrom (now (curve .entry))) flip f ⌝ }
+    ensures { λ r. ⌜ r ≡ intersectFramed (curveFrom (now (curve .entry))) flip (withAim (curveFrom (now (curve .entry))) aimed) ⌝ }
 {
-    match f {
-        Framed::Curve(ray, v, cp) => intersect_whole(curve, ray, flip, v, whole(curve, cp)),
-        Framed::ZeroWeight => Intersection::Refused(12),
-        Framed::ZeroLength => Intersection::Refused(13),
+    match aimed {
+        Aimed::Ray(a) => intersect_along(curve, flip, a),
+        Aimed::ZeroWeight => Intersection::Refused(12),
     }
 }
 
-fn intersect_within(
-    curve: &[f32],
-    object_to_world: Matrix4x4,
-    world_to_object: Matrix4x4,
-    reverse_orientation: bool,
-    ray: Ray,
-) -> Intersection
-    requires { ⌜ floats ≤ length (now curve) ⌝ }
-    ensures { λ r. ⌜ r ≡ intersectWithin (curveFrom (now (curve .entry))) «object_to_world» «world_to_object» «reverse_orientation» ray ⌝ }
-{
-    let number = ray_refusal(object_to_world, world_to_object, ray);
-    if number == 0 {
-        let flip = flips(reverse_orientation, object_to_world);
-        intersect_framed(curve, flip, frame_curve(curve, world_to_object, ray))
-    } else {
-        Intersection::Refused(number)
-    }
-}
-
-// Where a ray meets a curve (01: the beam).
+// Where a ray meets a curve (01: the beam). What is asked of the matrices is done before the curve is looked at, so that
+// they need not be kept through that call; it is told in its order.
 pub fn intersect(
     curve: &[f32],
     object_to_world: Matrix4x4,
@@ -105,14 +86,14 @@ pub fn intersect(
 ) -> Intersection
     ensures { λ r. ⌜ r ≡ intersectOf (now (curve .entry)) «object_to_world» «world_to_object» «reverse_orientation» ray ⌝ }
 {
+    let number = ray_refusal(object_to_world, world_to_object, ray);
+    let flip = flips(reverse_orientation, object_to_world);
     if is_curve(curve) {
-        intersect_within(
-            curve,
-            object_to_world,
-            world_to_object,
-            reverse_orientation,
-            ray,
-        )
+        if number == 0 {
+            intersect_aimed(curve, flip, aim_ray(world_to_object, ray))
+        } else {
+            Intersection::Refused(number)
+        }
     } else {
         Intersection::Refused(9)
     }

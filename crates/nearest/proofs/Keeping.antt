@@ -9,29 +9,20 @@ use borrow.Author.Tests.{ltb-true, ltb-false, not-true}
 use lib.Dec.{ltb}
 use lib.Ieee.{Float}
 use lib.ListN.{length, take}
-use Rattle.geometry.specs.declared.ray.Ray.{Ray}
 use Rattle.limits.specs.Refusal.{firstOf}
-use Rattle.bezier.specs.declared.cubic.Cubic.{Cubic}
 use Rattle.curve.specs.Curve.{isCurve}
 use Rattle.curve.specs.Layout.{floats, curveFrom, curveAt}
 use Rattle.frame.specs.declared.frame.Aim.{Aim}
 use Rattle.frame.specs.declared.frame.Aimed.the-variants as aimed
 use Rattle.frame.specs.declared.frame.Framed.{Framed}
 use Rattle.frame.specs.declared.frame.Framed.the-variants as framed
-use Rattle.frame.specs.declared.frame.View.{View}
 use Rattle.frame.specs.Frame.{framedAlong}
 use Rattle.frame.proofs.FramedRay.{framed-ray}
-use Rattle.overlap.specs.declared.subcurve.Subcurve.{Subcurve}
-use Rattle.overlap.specs.Depth.{depthOf}
-use Rattle.overlap.specs.Subcurve.{wholeOf}
-use Rattle.leaf.specs.declared.leaf.Leaf.{Leaf}
-use Rattle.leaf.specs.declared.leaf.Leaf.the-variants.{NoFrame}
 use Rattle.leaf.specs.Found.{distanceFrom, crossingFrom}
 use Rattle.leaf.specs.Record.{recordOf}
 use Rattle.walk.specs.declared.rule.Rule.the-variants as rule
-use Rattle.walk.specs.declared.rule.Walked.{Walked}
-use Rattle.walk.specs.declared.rule.Walked.the-variants as walked
-use Rattle.walk.specs.Walk.{leafBy, lastIn}
+use Rattle.walk.specs.Walk.{lastIn, Walked}
+use Rattle.walk.proofs.Rules.{number-in}
 use Rattle.nearest.specs.declared.NearestIntersection.{NearestIntersection}
 use Rattle.nearest.specs.declared.NearestIntersection.the-variants.{Miss, Refused}
 use Rattle.nearest.specs.declared.pieces.Kept.{Kept}
@@ -46,29 +37,19 @@ and-true false e = refl
 
 -- ---- the returns of `walk_piece`
 
-module _ (l : List Float) (b : Bool) (tested : b ≡ isCurve l) (a : Aim) (flip : Bool) (k : ℕ) where
-  -- a leaf with no frame gives the number, at whatever distance
-  pub piece-wrong : (t : Float) → b ≡ false → leafAnswer (curveFrom l) flip k (a .ray) (NoFrame 9 t) ≡ answerOf flip (aimed.Ray a) k l
-  unfolding answerOf leafAnswer firstOf
-  piece-wrong t e = rw (← tested, e)
+module _ (l : List Float) (b : Bool) (tested : b ≡ isCurve l) (a : Aim) (flip : Bool) (k : ℕ) (x : List Float) where
+  pub piece-wrong : b ≡ false → leafAnswer (curveFrom l) flip k (a .ray) (lastIn 9 x) ≡ answerOf flip (aimed.Ray a) k l
+  unfolding answerOf leafAnswer lastIn firstOf
+  piece-wrong e = rw (← tested, e)
 
-  module _ (passed : b ≡ true) (f : Framed) (framing : f ≡ framedAlong (curveFrom l) a) where
-    answered : answerOf flip (aimed.Ray a) k l ≡ framedAnswer (curveFrom l) flip k f
-    unfolding answerOf firstOf
-    answered = rw (← tested, passed, framing)
-
-    pub piece-weightless : (t : Float) → f ≡ framed.ZeroWeight → leafAnswer (curveFrom l) flip k (a .ray) (NoFrame 12 t) ≡ answerOf flip (aimed.Ray a) k l
-    unfolding framedAnswer leafAnswer
-    piece-weightless t e = rw (answered, e)
-
-    pub piece-lengthless : (t : Float) → f ≡ framed.ZeroLength → leafAnswer (curveFrom l) flip k (a .ray) (NoFrame 13 t) ≡ answerOf flip (aimed.Ray a) k l
-    unfolding framedAnswer leafAnswer
-    piece-lengthless t e = rw (answered, e)
-
-    pub piece-walked : (ray : Ray) (v : View) (cp : Cubic) (s : Subcurve) (x : Leaf) → f ≡ framed.Curve ray v cp → s ≡ wholeOf (curveFrom l) cp
-        → x ≡ leafBy rule.Nearest (curveFrom l) v s (depthOf (curveFrom l) (s .cp)) → leafAnswer (curveFrom l) flip k (a .ray) x ≡ answerOf flip (aimed.Ray a) k l
-    unfolding framedAnswer wholeOf
-    piece-walked ray v cp s x e w i = rw (answered, e, framed-ray a (curveFrom l) ray v cp (sym framing ∙ e), i, w)
+  pub piece-walked : b ≡ true → (w n : ℕ) → Walked rule.Nearest (curveFrom l) (framedAlong (curveFrom l) a) w x n → leafAnswer (curveFrom l) flip k (a .ray) (lastIn w x) ≡ answerOf flip (aimed.Ray a) k l
+  unfolding answerOf framedAnswer leafAnswer lastIn firstOf
+  piece-walked e w n h = rw (← tested, e) (go (framedAlong (curveFrom l) a) refl h)
+    where
+      go : (f : Framed) → framedAlong (curveFrom l) a ≡ f → Walked rule.Nearest (curveFrom l) f w x n → leafAnswer (curveFrom l) flip k (a .ray) (lastIn w x) ≡ framedAnswer (curveFrom l) flip k f
+      go (framed.Curve ray v cp) f h = rw (h .0, framed-ray a (curveFrom l) ray v cp f)
+      go framed.ZeroWeight f h = rw h
+      go framed.ZeroLength f h = rw h
 
 -- ---- the returns of `keep_piece`
 
@@ -78,7 +59,7 @@ below-more k n (kept.Hit i) l h = omega arith
 below-more k n kept.Miss l h = tt
 below-more k n (kept.Refused number) l h = tt
 
-module _ (list p : List Float) (a : Aim) (k : ℕ) (w : Kept) (best found : List Float) (r : Walked) (piece : p ≡ curveAt list k)
+module _ (list p : List Float) (a : Aim) (k : ℕ) (w : Kept) (best found : List Float) (r : ℕ) (piece : p ≡ curveAt list k)
     (answered : (flip : Bool) (k : ℕ) → leafAnswer (curveFrom p) flip k (a .ray) (lastIn r found) ≡ answerOf flip (aimed.Ray a) k p) (flip : Bool) where
   abbrev before : NearestIntersection
   before = keptAnswer list (a .ray) flip w best
@@ -90,9 +71,9 @@ module _ (list p : List Float) (a : Aim) (k : ℕ) (w : Kept) (best found : List
   unfolding answerAt
   alone = rw piece at (sym (answered flip k))
 
-  module _ (hit : r ≡ walked.Hit) (t : Float) (b : Bool) (far : t ≡ distanceFrom found) (tested : b ≡ isNearer t w best) where
+  module _ (hit : r ≡ 0) (t : Float) (b : Bool) (far : t ≡ distanceFrom found) (tested : b ≡ isNearer t w best) where
     pub keep-taken : b ≡ true → keptAnswer list (a .ray) flip (kept.Hit k) found ≡ joined before (answerAt flip (aimed.Ray a) list k)
-    unfolding joined keptAnswer leafAnswer isNearer recordOf crossingFrom distanceFrom
+    unfolding joined keptAnswer leafAnswer lastIn isNearer recordOf crossingFrom distanceFrom
     keep-taken e = rw (alone, hit) (go w (rw (← far) (sym tested ∙ e)))
       where
         go : (w : Kept) → isNearer (distanceFrom found) w best ≡ true → keptAnswer list (a .ray) flip (kept.Hit k) found ≡ joined (keptAnswer list (a .ray) flip w best) (keptAnswer list (a .ray) flip (kept.Hit k) found)
@@ -101,7 +82,7 @@ module _ (list p : List Float) (a : Aim) (k : ℕ) (w : Kept) (best found : List
         go (kept.Refused number) n = absurd (false≢true n)
 
     pub keep-stays : b ≡ false → before ≡ joined before (answerAt flip (aimed.Ray a) list k)
-    unfolding joined keptAnswer leafAnswer isNearer recordOf crossingFrom distanceFrom
+    unfolding joined keptAnswer leafAnswer lastIn isNearer recordOf crossingFrom distanceFrom
     keep-stays e = rw (alone, hit) (go w (rw (← far) (sym tested ∙ e)))
       where
         go : (w : Kept) → isNearer (distanceFrom found) w best ≡ false → keptAnswer list (a .ray) flip w best ≡ joined (keptAnswer list (a .ray) flip w best) (keptAnswer list (a .ray) flip (kept.Hit k) found)
@@ -109,15 +90,15 @@ module _ (list p : List Float) (a : Aim) (k : ℕ) (w : Kept) (best found : List
         go kept.Miss n = absurd (true≢false n)
         go (kept.Refused number) n = refl
 
-  pub keep-missed : r ≡ walked.Miss → before ≡ joined before (answerAt flip (aimed.Ray a) list k)
-  unfolding leafAnswer
+  pub keep-missed : r ≡ 1 → before ≡ joined before (answerAt flip (aimed.Ray a) list k)
+  unfolding leafAnswer lastIn
   keep-missed e = rw (alone, e) (miss-behind before)
 
-  pub keep-refused : (number : ℕ) → r ≡ walked.Refused number → keptRefused w ≡ false → keptAnswer list (a .ray) flip (kept.Refused number) best ≡ joined before (answerAt flip (aimed.Ray a) list k)
+  pub keep-refused : (r ≡ 0 → ⊥) → (r ≡ 1 → ⊥) → keptRefused w ≡ false → keptAnswer list (a .ray) flip (kept.Refused r) best ≡ joined before (answerAt flip (aimed.Ray a) list k)
   unfolding joined keptAnswer leafAnswer
-  keep-refused number e h = rw (alone, e) (go w h)
+  keep-refused z o h = rw (alone, number-in r found z o) (go w h)
     where
-      go : (w : Kept) → keptRefused w ≡ false → Refused number ≡ joined (keptAnswer list (a .ray) flip w best) (Refused number)
+      go : (w : Kept) → keptRefused w ≡ false → Refused r ≡ joined (keptAnswer list (a .ray) flip w best) (Refused r)
       go (kept.Hit i) n = refl
       go kept.Miss n = refl
       go (kept.Refused m) n = absurd (true≢false n)

@@ -13,17 +13,15 @@ use crate::NearestIntersection;
 use curve::FLOATS;
 use curve::is_curve;
 use frame::Aim;
-use frame::Framed;
-use frame::frame_aimed;
 use leaf::FOUND;
 use leaf::crossing_in;
 use leaf::distance_in;
 use leaf::frame_in;
 use leaf::record_at;
-use overlap::whole;
+use walk::HIT;
+use walk::MISS;
 use walk::Rule;
-use walk::Walked;
-use walk::walk_whole;
+use walk::walk_aimed;
 
 // What the curves so far have come to: the number of the one with the nearest crossing, whose floats are lent beside it.
 enum Kept {
@@ -32,28 +30,15 @@ enum Kept {
     Refused(u8),
 }
 
-// One curve's nearest crossing.
-fn walk_piece(curve: &[f32], a: Aim, found: &mut [f32; FOUND]) -> Walked
+// What a curve alone comes to: 9, or what the walk tells.
+fn walk_piece(curve: &[f32], a: Aim, found: &mut [f32; FOUND]) -> u8
     ensures { λ r. ⌜ ((flip : Bool) (k : ℕ) → leafAnswer (curveFrom (now (curve .entry))) flip k (a .ray) (lastIn r (now (found .exit))) ≡ answerOf flip (aimed.Ray a) k (now (curve .entry))) ⌝ }
 {
     if is_curve(curve) {
-        match frame_aimed(curve, a) {
-            Framed::Curve(_, v, cp) => {
-                let mut looked = 0u32;
-                walk_whole(
-                    curve,
-                    v,
-                    whole(curve, cp),
-                    Rule::Nearest,
-                    found,
-                    &mut looked,
-                )
-            }
-            Framed::ZeroWeight => Walked::Refused(12),
-            Framed::ZeroLength => Walked::Refused(13),
-        }
+        let mut looked = 0u32;
+        walk_aimed(curve, a, Rule::Nearest, found, &mut looked)
     } else {
-        Walked::Refused(9)
+        9
     }
 }
 
@@ -76,17 +61,18 @@ fn keep_piece(list: &[f32], k: usize, a: Aim, best: &mut [f32; FOUND], kept: Kep
 {
     let from = k * FLOATS;
     let mut found = [0.0f32; FOUND];
-    match walk_piece(&list[from..from + FLOATS], a, &mut found) {
-        Walked::Hit => {
-            if is_nearer(distance_in(&found), kept, best) {
-                *best = found;
-                Kept::Hit(k)
-            } else {
-                kept
-            }
+    let w = walk_piece(&list[from..from + FLOATS], a, &mut found);
+    if w == HIT {
+        if is_nearer(distance_in(&found), kept, best) {
+            *best = found;
+            Kept::Hit(k)
+        } else {
+            kept
         }
-        Walked::Miss => kept,
-        Walked::Refused(number) => Kept::Refused(number),
+    } else if w == MISS {
+        kept
+    } else {
+        Kept::Refused(w)
     }
 }
 

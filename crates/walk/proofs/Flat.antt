@@ -29,8 +29,6 @@ use Rattle.leaf.specs.declared.leaf.Leaf.{Leaf}
 use Rattle.leaf.specs.declared.leaf.Leaf.the-variants.{Fails}
 use Rattle.leaf.specs.Leaf.{leafOf}
 use Rattle.walk.specs.declared.rule.Rule.{Rule}
-use Rattle.walk.specs.declared.rule.Walked.{Walked}
-use Rattle.walk.specs.declared.rule.Walked.the-variants.{Miss}
 use Rattle.walk.specs.Leaves.{subcurveAt, leafAt}
 use Rattle.walk.specs.Rule.{counts, ends, beats}
 use Rattle.walk.specs.Steps.{Reached, entered, settled, isOver, walkIn, reached}
@@ -109,14 +107,15 @@ module _ (rule : Rule) (c : Curve) (v : View) (s : Subcurve) (p : List Float) (w
   unfolding isWholeThrown
   is-tested = cc
 
-  pub whole-shut : b ≡ true → (Fails ≡ leafBy rule c v s (depthOf c (s .cp))) × (0 ≡ countBy rule c v s (depthOf c (s .cp)))
-  whole-shut t = (none-open rule c v s _ (is-tested ∙ t), none-counted rule c v s _ (is-tested ∙ t))
+  pub whole-shut : (y : List Float) → b ≡ true → (lastIn 1 y ≡ leafBy rule c v s (depthOf c (s .cp))) × (0 ≡ countBy rule c v s (depthOf c (s .cp)))
+  unfolding lastIn
+  whole-shut y t = (none-open rule c v s _ (is-tested ∙ t), none-counted rule c v s _ (is-tested ∙ t))
 
-  module _ (n m : ℕ) (l x y : List Float) (q : Walked) (is-open : b ≡ false) (deep : n ≡ depthOf c (s .cp)) (fixed : l ≡ viewFloats v)
-      (walk : reached q x m ≡ walkIn rule c (viewFrom l) n (subcurveIn p (s .u0) (s .u1)) (reached Miss y 0)) where
+  module _ (n m : ℕ) (l x y : List Float) (q : ℕ) (is-open : b ≡ false) (deep : n ≡ depthOf c (s .cp)) (fixed : l ≡ viewFloats v)
+      (walk : reached q x m ≡ walkIn rule c (viewFrom l) n (subcurveIn p (s .u0) (s .u1)) (reached 1 y 0)) where
     whole-reached : reached q x m ≡ (leafBy rule c v s (depthOf c (s .cp)), countBy rule c v s (depthOf c (s .cp)))
     whole-reached =
-        let start : reached Miss y 0 ≡ reachedBy 0 Fails = unfold reached in refl in
+        let start : reached 1 y 0 ≡ reachedBy 0 Fails = unfold reached lastIn in refl in
         rw (walk, subcurve-back s p lent, start, deep, fixed, view-back) (walked rule c v s (depthOf c (s .cp)) (is-tested ∙ is-open))
 
     pub whole-walked : (lastIn q x ≡ leafBy rule c v s (depthOf c (s .cp))) × (m ≡ countBy rule c v s (depthOf c (s .cp)))

@@ -1,14 +1,18 @@
 -- What the rules have in common. Assumes nothing.
 use mathlib.Core.Bool.{Bool, true, false, not, cond, _||_, false≢true, true≢false}
+use mathlib.Core.List.{List}
 use mathlib.Core.Path.{_≡_, refl}
 use Prim.Native.Nat.{ℕ}
+use borrow.Author.Tests.{ne-eqb}
 use lib.Ieee.{Float, nan, inf, fin, isNan, lt}
 use Rattle.leaf.specs.declared.leaf.Leaf.{Leaf}
 use Rattle.leaf.specs.declared.leaf.Leaf.the-variants.{Passes, Fails, NoFrame}
+use Rattle.leaf.specs.Found.{distanceFrom}
 use Rattle.walk.specs.declared.rule.Rule.{Rule}
 use Rattle.walk.specs.declared.rule.Rule.the-variants.{Last, Nearest}
 use Rattle.walk.specs.Rule.{isCounted, isBetter, counts, ends, beats}
 use Rattle.walk.specs.Steps.{takesPlace, later}
+use Rattle.walk.specs.Walk.{lastIn}
 
 -- ---- a leaf that ends the walk
 
@@ -110,3 +114,9 @@ chooses Nearest (Passes at f) Fails e h = absurd (false≢true e)
 chooses Nearest (Passes at f) (NoFrame k t) e h = refl
 chooses Nearest Fails q e h = absurd (false≢true h)
 chooses Nearest (NoFrame k t) q e h = rw h
+
+-- ---- how the code holds it
+
+pub number-in : (w : ℕ) (l : List Float) → (w ≡ 0 → ⊥) → (w ≡ 1 → ⊥) → lastIn w l ≡ NoFrame w (distanceFrom l)
+unfolding lastIn
+number-in w l a b = rw (ne-eqb w 0 a, ne-eqb w 1 b)

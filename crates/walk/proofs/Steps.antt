@@ -1,10 +1,12 @@
 -- The walk's code, step by step: what each return of `recursive_intersect` and `half_step` gives, and that the count has room. Assumes nothing.
-use mathlib.Core.Bool.{Bool, true, false}
+use mathlib.Core.Bool.{Bool, true, false, cond}
 use mathlib.Core.List.{List}
 use mathlib.Core.Path.{_≡_, refl, sym, ap}
 use Prim.Native.Nat.{ℕ, zero, suc, _+_, _-_, _^_, _≤_, _<_}
 use native.Mathlib.Nat.{le-refl}
 use native.Mathlib.Omega.{arith}
+use borrow.Author.Tests.{ne-eqb}
+use lib.Dec.{eqb}
 use lib.Ieee.{Float}
 use lib.Pow.{pow-pos}
 use Rattle.bisection.specs.Walk.{onward, walkOf}
@@ -22,15 +24,14 @@ use Rattle.leaf.specs.declared.leaf.Crossing.{Crossing}
 use Rattle.leaf.specs.declared.leaf.Frame.{Frame}
 use Rattle.leaf.specs.declared.leaf.Leaf.{Leaf}
 use Rattle.leaf.specs.declared.leaf.Leaf.the-variants.{Passes, Fails, NoFrame}
-use Rattle.leaf.specs.Found.{distanceFrom, foundFloats}
+use Rattle.leaf.specs.Found.{distanceFrom, crossingFrom, frameFrom, foundFloats}
 use Rattle.leaf.specs.Leaf.{leafOf}
 use Rattle.leaf.proofs.FoundBack.{crossing-back, frame-back}
-use Rattle.walk.specs.declared.rule.Walked.{Walked}
-use Rattle.walk.specs.declared.rule.Walked.the-variants.{Hit, Refused}
 use Rattle.walk.specs.declared.rule.Rule.{Rule}
-use Rattle.walk.specs.Rule.{isCounted, ends}
+use Rattle.walk.specs.Rule.{isCounted, isBetter, ends}
 use Rattle.walk.specs.Walk.{lastIn}
 use Rattle.walk.specs.Steps.{Reached, entered, takesPlace, later, settled, isOver, walkIn, halfIn, reached}
+use Rattle.walk.proofs.Rules.{number-in}
 
 -- ---- the count
 
@@ -57,7 +58,7 @@ level-below (suc d) f = let e : suc d - 1 ≡ d = omega arith in rw e (sym (pow-
 pub room-low : (d n e : ℕ) → (d ≡ 0 → ⊥) → n + 2 ^ suc d ≤ 2 ^ 32 → e ≤ n + 1 → e + 2 ^ suc (d - 1) ≤ 2 ^ 32
 room-low d n e f h le = omega (arith, level-below d f, pow-pos (suc (d - 1)))
 
-pub room-high : (rule : Rule) (c : Curve) (v : View) (p : Subcurve) (d n e m : ℕ) (l x : List Float) (r q : Walked) → (d ≡ 0 → ⊥) → n + 2 ^ suc d ≤ 2 ^ 32 → e ≤ n + 1
+pub room-high : (rule : Rule) (c : Curve) (v : View) (p : Subcurve) (d n e m : ℕ) (l x : List Float) (r q : ℕ) → (d ≡ 0 → ⊥) → n + 2 ^ suc d ≤ 2 ^ 32 → e ≤ n + 1
     → reached q x m ≡ halfIn rule c v (d - 1) p (reached r l e) → m + 2 ^ suc (d - 1) ≤ 2 ^ 32
 unfolding halfIn reached
 room-high rule c v p d n e m l x r q f h le g =
@@ -80,12 +81,20 @@ module _ (rule : Rule) (c : Curve) (v : View) (l : List Float) (u0 u1 : Float) (
   unfolding halfIn walkIn
   half-in t q r e = rw (is-tested, t) e
 
-pub walk-ends : (rule : Rule) (c : Curve) (v : View) (s : Subcurve) (d n : ℕ) (r q : Walked) (x y : List Float) (a : Leaf) → d ≡ 0 → a ≡ leafOf c v s
+pub walk-ends : (rule : Rule) (c : Curve) (v : View) (s : Subcurve) (d n : ℕ) (r q : ℕ) (x y : List Float) (a : Leaf) → d ≡ 0 → a ≡ leafOf c v s
     → lastIn q y ≡ later rule a (lastIn r x) → reached q y (n + 1) ≡ walkIn rule c v d s (reached r x n)
 unfolding walkIn walkOf settled entered reached
 walk-ends rule c v s d n r q x y a z k w = rw (w, k, z)
 
--- ---- what `settle` writes
+-- ---- what `settle` writes, and what stands there
+
+pub takes-place : (rule : Rule) (t : Float) (w : ℕ) (l : List Float) → (w ≡ 1 → ⊥) → takesPlace rule t (lastIn w l) ≡ isBetter rule t (distanceFrom l)
+unfolding takesPlace lastIn crossingFrom distanceFrom
+takes-place rule t w l f = rw (ne-eqb w 1 f) (go (eqb w 0))
+  where
+    go : (b : Bool) → takesPlace rule t (cond b (Passes (crossingFrom l) (frameFrom l)) (NoFrame w (distanceFrom l))) ≡ isBetter rule t (distanceFrom l)
+    go true = refl
+    go false = refl
 
 pub settle-none : (rule : Rule) (l before : Leaf) → l ≡ Fails → before ≡ later rule l before
 unfolding later
@@ -93,28 +102,28 @@ settle-none rule l before e = rw e
 
 -- with the test b
 module _ (rule : Rule) (l before : Leaf) (b : Bool) where
-  pub settle-hit : (at : Crossing) (f : Frame) (x : List Float) → l ≡ Passes at f → b ≡ takesPlace rule (at .t) before → b ≡ true → x ≡ foundFloats at f → lastIn Hit x ≡ later rule l before
-  unfolding later
+  pub settle-hit : (at : Crossing) (f : Frame) (x : List Float) → l ≡ Passes at f → b ≡ takesPlace rule (at .t) before → b ≡ true → x ≡ foundFloats at f → lastIn 0 x ≡ later rule l before
+  unfolding later lastIn
   settle-hit at f x e t y k = rw (e, ← t, y, k, crossing-back, frame-back)
 
   pub settle-stays : (at : Crossing) (f : Frame) → l ≡ Passes at f → b ≡ takesPlace rule (at .t) before → b ≡ false → before ≡ later rule l before
   unfolding later
   settle-stays at f e t n = rw (e, ← t, n)
 
-  pub settle-refused : (k : ℕ) (t : Float) (x : List Float) → l ≡ NoFrame k t → b ≡ isCounted rule t → b ≡ true → distanceFrom x ≡ t → lastIn (Refused k) x ≡ later rule l before
+  pub settle-refused : (k : ℕ) (t : Float) (x : List Float) → l ≡ NoFrame k t → b ≡ isCounted rule t → b ≡ true → distanceFrom x ≡ t → 2 ≤ k → lastIn k x ≡ later rule l before
   unfolding later
-  settle-refused k t x e c y h = rw (e, ← c, y, h)
+  settle-refused k t x e c y h le = rw (e, ← c, y, ← h) (number-in k x (λ z. omega arith) (λ z. omega arith))
 
   pub settle-skips : (k : ℕ) (t : Float) → l ≡ NoFrame k t → b ≡ isCounted rule t → b ≡ false → before ≡ later rule l before
   unfolding later
   settle-skips k t e c n = rw (e, ← c, n)
 
 -- the count goes up by one
-pub one-more : (r : Walked) (l : List Float) (n : ℕ) → reached r l (n + 1) ≡ entered (reached r l n)
+pub one-more : (r : ℕ) (l : List Float) (n : ℕ) → reached r l (n + 1) ≡ entered (reached r l n)
 unfolding reached entered
 one-more r l n = refl
 
-pub over-is : (rule : Rule) (r : Walked) (l : List Float) (n : ℕ) (b : Bool) → b ≡ ends rule (lastIn r l) → b ≡ isOver rule (reached r l n)
+pub over-is : (rule : Rule) (r : ℕ) (l : List Float) (n : ℕ) (b : Bool) → b ≡ ends rule (lastIn r l) → b ≡ isOver rule (reached r l n)
 unfolding isOver reached
 over-is rule r l n b e = e
 

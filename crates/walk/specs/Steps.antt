@@ -13,7 +13,6 @@ use Rattle.leaf.specs.declared.leaf.Leaf.{Leaf}
 use Rattle.leaf.specs.declared.leaf.Leaf.the-variants.{Passes, Fails, NoFrame}
 use Rattle.leaf.specs.Leaf.{leafOf}
 use Rattle.walk.specs.declared.rule.Rule.{Rule}
-use Rattle.walk.specs.declared.rule.Walked.{Walked}
 use Rattle.walk.specs.Rule.{isCounted, isBetter, ends}
 use Rattle.walk.specs.Walk.{lastIn}
 
@@ -51,5 +50,5 @@ module _ (rule : Rule) where
 
 -- ---- how the code holds it
 
-unfoldable pub reached : Walked → List Float → ℕ → Reached
+unfoldable pub reached : ℕ → List Float → ℕ → Reached
 reached w l n = (lastIn w l, n)

@@ -3,6 +3,7 @@
 mod rule;
 mod walk;
 
+pub use rule::HIT;
+pub use rule::MISS;
 pub use rule::Rule;
-pub use rule::Walked;
-pub use walk::walk_whole;
+pub use walk::walk_aimed;

@@ -1,5 +1,8 @@
 // Which leaf decides, and what a walk has come to by it.
 ghost use mathlib.Core.Path.{_≡_};
+ghost use Prim.Native.Nat.{ℕ, _≤_};
+ghost use lib.Ieee.{Float};
+ghost use Rattle.leaf.specs.declared.leaf.Leaf.the-variants.{NoFrame};
 ghost use Rattle.walk.specs.Rule.{isCounted, isBetter, ends};
 ghost use Rattle.walk.specs.Steps.{takesPlace, later};
 ghost use Rattle.walk.specs.Walk.{lastIn};
@@ -17,13 +20,12 @@ pub enum Rule {
     Nearest,
 }
 
-// What a walk has come to. The crossing of a hit with its frame, or the distance where there is none, is among the
-// floats that it fills, so that what every step hands on is small.
-pub enum Walked {
-    Hit,
-    Miss,
-    Refused(u8),
-}
+// What a walk has come to is one byte, so that every step hands it on in a register: a hit, a miss, or the number of a
+// leaf with no frame. The crossing of a hit with its frame, or the distance where there is none, is among the floats that
+// the walk fills.
+pub const HIT: u8 = 0;
+
+pub const MISS: u8 = 1;
 
 // Whether a leaf that passes its tests at distance t does so by the rule.
 fn is_counted(rule: Rule, t: f32) -> bool
@@ -46,25 +48,26 @@ fn is_better(rule: Rule, t: f32, earlier: f32) -> bool
 }
 
 // Whether a leaf with a frame, at distance t, takes the place of what the walk has come to.
-fn takes_place(rule: Rule, t: f32, found: &[f32; FOUND], so_far: Walked) -> bool
+fn takes_place(rule: Rule, t: f32, found: &[f32; FOUND], so_far: u8) -> bool
     ensures { λ b. ⌜ b ≡ takesPlace rule t (lastIn «so_far» (now (found .entry))) ⌝ }
 {
-    match so_far {
-        Walked::Hit => is_better(rule, t, distance_in(found)),
-        Walked::Miss => is_counted(rule, t),
-        Walked::Refused(_) => is_better(rule, t, distance_in(found)),
+    if so_far == MISS {
+        is_counted(rule, t)
+    } else {
+        is_better(rule, t, distance_in(found))
     }
 }
 
 // What a leaf's answer makes of the walk so far.
-pub fn settle(rule: Rule, l: Leaf, found: &mut [f32; FOUND], so_far: Walked) -> Walked
+pub fn settle(rule: Rule, l: Leaf, found: &mut [f32; FOUND], so_far: u8) -> u8
+    requires { ⌜ ((number : ℕ) (t : Float) → l ≡ NoFrame number t → 2 ≤ number) ⌝ }
     ensures { λ r. ⌜ lastIn r (now (found .exit)) ≡ later rule l (lastIn «so_far» (now (found .entry))) ⌝ }
 {
     match l {
         Leaf::Passes(at, f) => {
             if takes_place(rule, at.t, found, so_far) {
                 *found = found_floats(at, f);
-                Walked::Hit
+                HIT
             } else {
                 so_far
             }
@@ -73,7 +76,7 @@ pub fn settle(rule: Rule, l: Leaf, found: &mut [f32; FOUND], so_far: Walked) -> 
         Leaf::NoFrame(number, t) => {
             if is_counted(rule, t) {
                 put_distance(found, t);
-                Walked::Refused(number)
+                number
             } else {
                 so_far
             }
@@ -82,15 +85,17 @@ pub fn settle(rule: Rule, l: Leaf, found: &mut [f32; FOUND], so_far: Walked) -> 
 }
 
 // Whether the walk goes no further.
-pub fn is_over(rule: Rule, w: Walked, found: &[f32; FOUND]) -> bool
+pub fn is_over(rule: Rule, w: u8, found: &[f32; FOUND]) -> bool
     ensures { λ b. ⌜ b ≡ ends rule (lastIn w (now (found .entry))) ⌝ }
 {
-    match w {
-        Walked::Hit => match rule {
+    if w == HIT {
+        match rule {
             Rule::Last => distance_in(found) == 0.0,
             Rule::Nearest => false,
-        },
-        Walked::Miss => false,
-        Walked::Refused(_) => is_counted(rule, distance_in(found)),
+        }
+    } else if w == MISS {
+        false
+    } else {
+        is_counted(rule, distance_in(found))
     }
 }

@@ -4,20 +4,24 @@ ghost use Prim.Native.Nat.{suc, _+_, _≤_, _^_};
 ghost use lib.ListN.{length};
 ghost use Rattle.curve.specs.Layout.{floats, curveFrom};
 ghost use Rattle.frame.specs.Fixed.{viewFrom};
+ghost use Rattle.frame.specs.Frame.{framedAlong};
 ghost use Rattle.overlap.specs.Subcurve.{subcurveIn};
 ghost use Rattle.overlap.specs.Depth.{depthOf};
 ghost use Rattle.walk.specs.Steps.{reached, walkIn, halfIn};
-ghost use Rattle.walk.specs.Walk.{leafBy, countBy, lastIn};
+ghost use Rattle.walk.specs.Walk.{leafBy, countBy, lastIn, Walked};
+use crate::rule::MISS;
 use crate::rule::Rule;
-use crate::rule::Walked;
 use crate::rule::is_over;
 use crate::rule::settle;
 use bezier::POINTS;
 use bezier::high_half;
 use bezier::low_half;
 use bezier::points_of;
+use frame::Aim;
 use frame::FIXED;
+use frame::Framed;
 use frame::View;
+use frame::frame_aimed;
 use frame::view_floats;
 use frame::zmax_in;
 use leaf::FOUND;
@@ -28,6 +32,7 @@ use overlap::is_thrown;
 use overlap::is_whole_thrown;
 use overlap::max_depth;
 use overlap::middle;
+use overlap::whole;
 
 // The walk calls the half step, which calls the walk; depth falls. The curve is the caller's slice, which passed refusal 9,
 // `fixed` is what else the walk holds fixed, the points p are those of a subcurve from u0 to u1, and `looked` counts the
@@ -42,8 +47,8 @@ fn recursive_intersect(
     rule: Rule,
     found: &mut [f32; FOUND],
     looked: &mut u32,
-    so_far: Walked,
-) -> Walked
+    so_far: u8,
+) -> u8
     requires { ⌜ (floats ≤ length (now curve)) × (now looked + 2 ^ suc depth ≤ 2 ^ 32) ⌝ }
     ensures { λ r. ⌜ reached r (now (found .exit)) (now (looked .exit)) ≡ walkIn rule (curveFrom (now (curve .entry))) (viewFrom (now (fixed .entry))) depth (subcurveIn (now (p .entry)) u0 u1) (reached «so_far» (now (found .entry)) (now (looked .entry))) ⌝ }
 {
@@ -95,8 +100,8 @@ fn half_step(
     rule: Rule,
     found: &mut [f32; FOUND],
     looked: &mut u32,
-    so_far: Walked,
-) -> Walked
+    so_far: u8,
+) -> u8
     requires { ⌜ (floats ≤ length (now curve)) × (now looked + 2 ^ suc depth ≤ 2 ^ 32) ⌝ }
     ensures { λ r. ⌜ reached r (now (found .exit)) (now (looked .exit)) ≡ halfIn rule (curveFrom (now (curve .entry))) (viewFrom (now (fixed .entry))) depth (subcurveIn (now (p .entry)) u0 u1) (reached «so_far» (now (found .entry)) (now (looked .entry))) ⌝ }
 {
@@ -109,14 +114,14 @@ fn half_step(
 }
 
 // The walk from the whole: what it comes to, its floats, and how many subcurves it looked at.
-pub fn walk_whole(
+fn walk_whole(
     curve: &[f32],
     v: View,
     s: Subcurve,
     rule: Rule,
     found: &mut [f32; FOUND],
     looked: &mut u32,
-) -> Walked
+) -> u8
     requires { ⌜ floats ≤ length (now curve) ⌝ }
     ensures { λ r. ⌜ lastIn r (now (found .exit)) ≡ leafBy rule (curveFrom (now (curve .entry))) v s (depthOf (curveFrom (now (curve .entry))) (s .cp)) ⌝ }
     ensures { λ _. ⌜ now (looked .exit) ≡ countBy rule (curveFrom (now (curve .entry))) v s (depthOf (curveFrom (now (curve .entry))) (s .cp)) ⌝ }
@@ -125,7 +130,7 @@ pub fn walk_whole(
     let w = half_width(curve, s.u0, s.u1);
     let points = points_of(s.cp);
     if is_whole_thrown(w, v.zmax, &points) {
-        Walked::Miss
+        MISS
     } else {
         let cuts = max_depth(curve, s.cp);
         let fixed = view_floats(v);
@@ -139,7 +144,26 @@ pub fn walk_whole(
             rule,
             found,
             looked,
-            Walked::Miss,
+            MISS,
         )
+    }
+}
+
+// The walk of a curve in the frame of a ray. What every reply asks of the ray and the curve alone is done here, so that it
+// is in the machine's code once.
+pub fn walk_aimed(
+    curve: &[f32],
+    a: Aim,
+    rule: Rule,
+    found: &mut [f32; FOUND],
+    looked: &mut u32,
+) -> u8
+    requires { ⌜ floats ≤ length (now curve) ⌝ }
+    ensures { λ r. ⌜ Walked rule (curveFrom (now (curve .entry))) (framedAlong (curveFrom (now (curve .entry))) a) r (now (found .exit)) (now (looked .exit)) ⌝ }
+{
+    match frame_aimed(curve, a) {
+        Framed::Curve(_, v, cp) => walk_whole(curve, v, whole(curve, cp), rule, found, looked),
+        Framed::ZeroWeight => 12,
+        Framed::ZeroLength => 13,
     }
 }

@@ -12,24 +12,24 @@ unfolding KeptBelow
 returns c =
     let nearer = c .before in
     let far = nearer .before .before in
-    let arm = far .before .before in
-    (λ flip. keep-taken _ _ _ _ _ _ _ _ (slice-curve _ _) (arm .before .before .walk-piece .ensures) flip (arm .enum-told .given .1) _ _ (far .distance-in .ensures) (nearer .is-nearer .ensures) (c .if1 .taken), λ _. le-refl _)
+    let hit = far .before .before in
+    (λ flip. keep-taken _ _ _ _ _ _ _ _ (slice-curve _ _) (hit .before .walk-piece .ensures) flip (hit .if1 .taken) _ _ (far .distance-in .ensures) (nearer .is-nearer .ensures) (c .if2 .taken), λ _. le-refl _)
 
 returns-2 : tie.Need-returns-2
 returns-2 c =
     let nearer = c .before in
     let far = nearer .before .before in
-    let arm = far .before .before in
-    (λ flip. keep-stays _ _ _ _ _ _ _ _ (slice-curve _ _) (arm .before .before .walk-piece .ensures) flip (arm .enum-told .given .1) _ _ (far .distance-in .ensures) (nearer .is-nearer .ensures) (c .if1 .left), below-more _ _ _ (le-suc _))
+    let hit = far .before .before in
+    (λ flip. keep-stays _ _ _ _ _ _ _ _ (slice-curve _ _) (hit .before .walk-piece .ensures) flip (hit .if1 .taken) _ _ (far .distance-in .ensures) (nearer .is-nearer .ensures) (c .if2 .left), below-more _ _ _ (le-suc _))
 
 returns-3 : tie.Need-returns-3
-returns-3 c = (λ flip. keep-missed _ _ _ _ _ _ _ _ (slice-curve _ _) (c .before .before .walk-piece .ensures) flip (c .enum-told2 .given .1), below-more _ _ _ (le-suc _))
+returns-3 c = (λ flip. keep-missed _ _ _ _ _ _ _ _ (slice-curve _ _) (c .before .before .walk-piece .ensures) flip (c .if3 .taken), below-more _ _ _ (le-suc _))
 
 returns-4 : tie.Need-returns-4
 unfolding KeptBelow
 returns-4 c =
-    let walk = c .before .before .before in
-    (λ flip. keep-refused _ _ _ _ _ _ _ _ (slice-curve _ _) (walk .walk-piece .ensures) flip _ (c .before .number .given .1) (walk .before .before .before .before .pre .1), λ _. tt)
+    let walk = c .before .before in
+    (λ flip. keep-refused _ _ _ _ _ _ _ _ (slice-curve _ _) (walk .walk-piece .ensures) flip (c .before .if1 .left) (c .if3 .left) (walk .before .before .before .before .pre .1), λ _. tt)
 
 pub keep-piece-spec : {M : Type 1} → statement M
-keep-piece-spec = tie.close (tie.spec (λ c. search needs) (λ c. search needs) (λ c. search needs) (λ c. search needs) (λ c. search needs) (λ c. search needs) (λ c κs. tt) (λ c. search needs) (λ c κs. search needs) (λ c κs. tt) (λ c. search needs) (λ c. search needs) returns returns-2 returns-3 returns-4)
+keep-piece-spec = tie.close (tie.spec (λ c. search needs) (λ c. search needs) (λ c. search needs) (λ c. search needs) (λ c. search needs) (λ c. search needs) (λ c κs. tt) (λ c κs. search needs) (λ c κs. tt) returns returns-2 returns-3 returns-4)

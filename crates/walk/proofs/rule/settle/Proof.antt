@@ -14,7 +14,7 @@ returns-3 : tie.Need-returns-3
 returns-3 c = settle-none _ _ _ (c .enum-told .given .1)
 
 returns-4 : tie.Need-returns-4
-returns-4 c = settle-refused _ _ _ _ _ _ _ (c .before .before .before .before .before .l2 .given .1) (c .before .before .before .is-counted .ensures) (c .before .before .if2 .taken) (c .put-distance .ensures)
+returns-4 c = settle-refused _ _ _ _ _ _ _ (c .before .before .before .before .before .l2 .given .1) (c .before .before .before .is-counted .ensures) (c .before .before .if2 .taken) (c .put-distance .ensures) (c .before .before .before .before .before .before .before .pre _ _ (c .before .before .before .before .before .l2 .given .1))
 
 returns-5 : tie.Need-returns-5
 returns-5 c = settle-skips _ _ _ _ _ _ (c .before .before .before .l2 .given .1) (c .before .is-counted .ensures) (c .if2 .left)

@@ -1,5 +1,6 @@
 -- The proof of the cycle of calls {half_step, recursive_intersect}. `half_step` calls `recursive_intersect` at its own depth, which calls `half_step` one depth lower: 2 * depth + 1 and 2 * depth.
 -- Assumes nothing.
+use mathlib.Core.Path.{sym, _∙_}
 use Prim.Native.Nat.{ℕ, _+_, _*_, _<_}
 use native.Mathlib.Omega.{arith}
 use borrow.Fn.Kinds.{In}
@@ -16,6 +17,7 @@ use Rattle.overlap.proofs.is_thrown.Reads as is-thrown-reads
 use Rattle.overlap.proofs.middle.Reads as middle-reads
 use Rattle.bezier.proofs.low_half.Reads as low-half-reads
 use Rattle.bezier.proofs.high_half.Reads as high-half-reads
+use Rattle.leaf.proofs.NoFrame.{no-frame}
 use Rattle.leaf.proofs.run_leaf.Reads as run-leaf-reads
 use Rattle.walk.proofs.rule.is_over.Reads as is-over-reads
 use Rattle.walk.proofs.rule.settle.Reads as settle-reads
@@ -91,6 +93,9 @@ walk-half-step-requires-2 t c κs =
     let cut = first .before .before .before .before .before .before .before in
     (omega arith, (cut .before .before .before .pre .1 .0, room-high _ _ _ _ _ _ _ _ _ _ _ _ (cut .if1 .left) (cut .before .before .before .pre .1 .1) (omega arith) (first .half-step .ensures)))
 
+walk-settle-requires : (t : ℕ) → walk-lts.Need-settle-requires (walk-calls t) (walk-at t) walk.Post
+walk-settle-requires t c κs number far e = let least = no-frame _ _ _ number far (sym (c .before .run-leaf .ensures) ∙ e) .0 in omega (arith, least)
+
 walk-returns : (t : ℕ) → walk-lts.Need-returns (walk-calls t) (walk-at t) walk.Post
 walk-returns t c =
     let run = c .before .before in
@@ -113,4 +118,4 @@ pub +half-step+recursive-intersect-spec : {M : Type 1} → statement M
 +half-step+recursive-intersect-spec =
     close μ-half-step μ-walk
     (λ t. half-step-lts.spec (half-step-calls t) (half-step-at t) half-step.Post (λ c κs. c .before .pre .1 .0) (λ c κs. tt) (λ c κs. tt) (half-step-walk-requires t) (half-step-returns t) (half-step-returns-2 t))
-    (λ t. walk-lts.spec (walk-calls t) (walk-at t) walk.Post (walk-add-looked t) (λ c κs. omega arith) (λ c κs. tt) (λ c κs. tt) (λ c κs. tt) (λ c κs. tt) (λ c. omega arith) (walk-half-step-requires t) (λ c κs. tt) (λ c. omega arith) (walk-half-step-requires-2 t) (walk-returns t) (walk-returns-2 t) (walk-returns-3 t))
+    (λ t. walk-lts.spec (walk-calls t) (walk-at t) walk.Post (walk-add-looked t) (λ c κs. omega arith) (walk-settle-requires t) (λ c κs. tt) (λ c κs. tt) (λ c κs. tt) (λ c. omega arith) (walk-half-step-requires t) (λ c κs. tt) (λ c. omega arith) (walk-half-step-requires-2 t) (walk-returns t) (walk-returns-2 t) (walk-returns-3 t))

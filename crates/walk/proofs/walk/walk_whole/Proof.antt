@@ -12,7 +12,7 @@ recursive-intersect-requires c κs =
 returns : tie.Need-returns
 returns c =
     let tested = c .before in
-    whole-shut _ _ _ _ _ _ _ (tested .before .before .before .half-width .ensures) (tested .before .before .points-of .ensures) (tested .is-whole-thrown .ensures) (c .if1 .taken)
+    whole-shut _ _ _ _ _ _ _ (tested .before .before .before .half-width .ensures) (tested .before .before .points-of .ensures) (tested .is-whole-thrown .ensures) _ (c .if1 .taken)
 
 returns-2 : tie.Need-returns-2
 returns-2 c =
