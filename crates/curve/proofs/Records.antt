@@ -29,10 +29,14 @@ pub is-curve-within : (c : Curve) → isCurve (curveFloats c) ≡ inLimits c
 unfolding isCurve curveFloats curveFrom cubicFrom pointFrom
 is-curve-within c = refl
 
+-- a curve has that many floats
+pub curve-length : (l : List Float) → isCurve l ≡ true → length l ≡ floats
+unfolding isCurve
+curve-length l e = eqb-true _ _ (and-eq-true-iff _ _ .0 e .0)
+
 -- a slice that is a curve is long enough to be read as one
 pub is-long : (l : List Float) (b : Bool) → b ≡ isCurve l → b ≡ true → floats ≤ length l
-unfolding isCurve
-is-long l b e t = le-of-eq (sym (eqb-true _ _ (and-eq-true-iff _ _ .0 (sym e ∙ t) .0)))
+is-long l b e t = le-of-eq (sym (curve-length l (sym e ∙ t)))
 
 -- the segment's control points, by their coordinates
 pub segment-by-axes : (l : List Float) → cubicOf (axisFrom l 0) (axisFrom l 1) (axisFrom l 2) ≡ cubicFrom l

@@ -34,14 +34,7 @@ pub enum Intersection {
 }
 
 // The reply at the end of a walk that looked at n subcurves. Here and below the curve is one that passed refusal 9.
-fn finish(
-    curve: &[f32],
-    ray: Ray,
-    flip: bool,
-    found: &[f32; FOUND],
-    n: u32,
-    w: u8,
-) -> Intersection
+fn finish(curve: &[f32], ray: Ray, flip: bool, found: &[f32; FOUND], n: u32, w: u8) -> Intersection
     requires { ⌜ floats ≤ length (now curve) ⌝ }
     ensures { λ r. ⌜ r ≡ replyOf (curveFrom (now (curve .entry))) ray flip n (lastIn w (now (found .entry))) ⌝ }
 {

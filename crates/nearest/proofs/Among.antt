@@ -10,8 +10,7 @@ use Rattle.bisection.specs.Below.{only, orElse, atOr, choose, better, firstBelo
 use Rattle.bisection.proofs.Below.{IsFirst, IsIn, first-is, best-in}
 use Rattle.nearest.specs.declared.NearestIntersection.{NearestIntersection}
 use Rattle.nearest.specs.declared.NearestIntersection.the-variants.{Hit, Miss, Refused}
-use Rattle.nearest.specs.Kept.{joined}
-use Rattle.nearest.specs.Nearest.{isHit, isRefused, distanceIn, among}
+use Rattle.nearest.specs.Nearest.{isHit, isRefused, distanceIn, among, joined}
 
 -- ---- two answers, one behind the other
 

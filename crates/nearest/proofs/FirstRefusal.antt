@@ -39,8 +39,7 @@ use Rattle.intersect.specs.Correct.{framingRefusals}
 use Rattle.nearest.specs.declared.NearestIntersection.{NearestIntersection}
 use Rattle.nearest.specs.declared.NearestIntersection.the-variants.{Hit, Miss, Refused}
 use Rattle.nearest.specs.Correct.{numberOf, leafRefusals, pieceRefusals, refusals}
-use Rattle.nearest.specs.Kept.{joined}
-use Rattle.nearest.specs.Nearest.{isHit, isRefused, distanceIn, among, leafAnswer, framedAnswer, answerOf, answerAt, nearestAimed, nearestRefusals, nearestOf}
+use Rattle.nearest.specs.Nearest.{isHit, isRefused, distanceIn, among, joined, leafAnswer, framedAnswer, answerOf, answerAt, nearestAimed, nearestRefusals, nearestOf}
 use Rattle.nearest.proofs.Among.{one-more, none-yet}
 use Rattle.nearest.proofs.LeafSays.{end-first, best-below}
 

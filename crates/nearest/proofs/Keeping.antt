@@ -27,8 +27,8 @@ use Rattle.nearest.specs.declared.NearestIntersection.{NearestIntersecti
 use Rattle.nearest.specs.declared.NearestIntersection.the-variants.{Miss, Refused}
 use Rattle.nearest.specs.declared.pieces.Kept.{Kept}
 use Rattle.nearest.specs.declared.pieces.Kept.the-variants as kept
-use Rattle.nearest.specs.Kept.{joined, keptAnswer, keptRefused, isNearer, KeptBelow}
-use Rattle.nearest.specs.Nearest.{among, leafAnswer, framedAnswer, answerOf, answerAt, nearestAimed}
+use Rattle.nearest.specs.Kept.{keptAnswer, keptRefused, isNearer, KeptBelow}
+use Rattle.nearest.specs.Nearest.{among, joined, leafAnswer, framedAnswer, answerOf, answerAt, nearestAimed}
 use Rattle.nearest.proofs.Among.{miss-behind, one-more, none-yet, refusal-is}
 
 and-true : (b : Bool) → b && true ≡ false → b ≡ false

@@ -20,7 +20,7 @@ use Rattle.leaf.specs.declared.leaf.Leaf.the-variants.{Passes, Fails, NoFrame}
 use Rattle.leaf.specs.Leaf.{leafOf}
 use Rattle.walk.specs.declared.rule.Rule.the-variants.{Nearest}
 use Rattle.walk.specs.Leaves.{subcurveAt, thrown, wholeOpen, openAt, leafAt}
-use Rattle.walk.specs.Rule.{passes, distanceOf, counts, ends, beats, isBetter}
+use Rattle.walk.specs.Rule.{passes, hasNoFrame, distanceOf, counts, ends, beats, isBetter}
 use Rattle.walk.specs.Walk.{endBy, bestBy, leafBy}
 
 -- ---- a leaf
@@ -112,26 +112,23 @@ module _ (c : Curve) (v : View) (s : Subcurve) (d : ℕ) where
   abbrev pub Says : Leaf → Type 0
   Says (Passes x f) = (i : ℕ) × (leaf i ≡ Passes x f) × Best i
   Says Fails = (j : ℕ) → j < 2 ^ d → isOpenAt j ≡ true → counts Nearest (leaf j) ≡ false
-  Says (NoFrame number t) = Unit {0}
+  Says (NoFrame number t) = (i : ℕ) × (i < 2 ^ d) × (isOpenAt i ≡ true) × (leaf i ≡ NoFrame number t)
 
   pub leaf-says : Says (leafBy Nearest c v s d)
   unfolding leafBy ends
   leaf-says = rw (end-first, best-below) (go (firstBelow (2 ^ d) openEnds) (first-is (2 ^ d) openEnds) (bestBelow nearer (2 ^ d) openCounts) best)
     where
-      ending : (l : Leaf) → ends Nearest l ≡ true → Says l
-      ending (Passes x f) e = absurd (false≢true e)
-      ending Fails e = absurd (false≢true e)
-      ending (NoFrame number t) e = tt
+      ending : (i : ℕ) (l : Leaf) → i < 2 ^ d → isOpenAt i ≡ true → leaf i ≡ l → ends Nearest l ≡ true → Says l
+      ending i (Passes x f) less o same e = absurd (false≢true e)
+      ending i Fails less o same e = absurd (false≢true e)
+      ending i (NoFrame number t) less o same e = (i, less, o, same)
 
       deciding : (i : ℕ) (l : Leaf) → leaf i ≡ l → HasFrame l → Best i → Says l
       deciding i (Passes x f) e h b = (i, e, b)
-      deciding i Fails e h b = absurd (clash (h .2))
-        where
-          clash : Fails ≡ Passes (h .0) (h .1) → ⊥
-          clash e = false≢true (ap passes e)
-      deciding i (NoFrame number t) e h b = tt
+      deciding i Fails e h b = absurd (false≢true (ap passes (h .2)))
+      deciding i (NoFrame number t) e h b = absurd (true≢false (ap hasNoFrame (h .2)))
 
       go : (o : Option ℕ) → IsFirst (2 ^ d) openEnds o → (p : Option ℕ) → IsBest nearer openCounts (2 ^ d) p → Says (atOr leaf Fails (orElse o p))
-      go (some i) h p h′ = ending (leaf i) (both (isOpenAt i) (ends Nearest (leaf i)) (h .1) .1)
+      go (some i) h p h′ = let here = both (isOpenAt i) (ends Nearest (leaf i)) (h .1) in ending i (leaf i) (h .0) (here .0) refl (here .1)
       go none h (some i) h′ = let b = best-says i h′ in deciding i (leaf i) refl (has-frame (leaf i) (b .2) (one-false (isOpenAt i) (ends Nearest (leaf i)) (h i (b .0)) (b .1))) b
       go none h none h′ = λ j l o. one-false (isOpenAt j) (counts Nearest (leaf j)) (h′ j l) o

@@ -1,6 +1,6 @@
--- The list, as the code goes: what each curve makes of what is kept so far. Definitions only. The contract of `nearest` does not cite them.
+-- How the code holds the answer of the curves so far. Definitions only. The contract of `nearest` does not cite them.
 use Prim.Native.Nat.{ℕ, _<_}
-use mathlib.Core.Bool.{Bool, true, false, cond}
+use mathlib.Core.Bool.{Bool, true, false}
 use mathlib.Core.List.{List}
 use lib.Ieee.{Float, lt}
 use Rattle.geometry.specs.declared.ray.Ray.{Ray}
@@ -11,16 +11,6 @@ use Rattle.nearest.specs.declared.NearestIntersection.{NearestIntersecti
 use Rattle.nearest.specs.declared.NearestIntersection.the-variants.{Hit, Miss, Refused}
 use Rattle.nearest.specs.declared.pieces.Kept.{Kept}
 use Rattle.nearest.specs.declared.pieces.Kept.the-variants as kept
-
--- an answer, and the answer of the curve behind: a refusal stands, and a hit as long as the next is not nearer
-unfoldable pub joined : NearestIntersection → NearestIntersection → NearestIntersection
-joined (Refused number) b = Refused number
-joined Miss b = b
-joined (Hit h k) (Hit h′ k′) = cond (lt (h′ .«t_hit») (h .«t_hit»)) (Hit h′ k′) (Hit h k)
-joined (Hit h k) Miss = Hit h k
-joined (Hit h k) (Refused number) = Refused number
-
--- ---- how the code holds it
 
 -- what is kept, with the floats of the crossing, as an answer
 unfoldable pub keptAnswer : List Float → Ray → Bool → Kept → List Float → NearestIntersection

@@ -1,7 +1,7 @@
 -- The nearest over a list of curves (02: P1), by curves, levels and numbers and not by the walk. Definitions only.
 -- Which leaf decides in one curve is `leafBy Nearest` of `walk`: the first open one that passes with no frame, or else the nearest, the first of those as near.
 use Prim.Native.Nat.{ℕ, _/_, _%_}
-use mathlib.Core.Bool.{Bool, true, false, not}
+use mathlib.Core.Bool.{Bool, true, false, not, cond}
 use mathlib.Core.List.{List, [], _∷_}
 use lib.Dec.{eqb}
 use lib.Ieee.{Float, nan, lt}
@@ -50,6 +50,20 @@ distanceIn (Refused number) = nan
 unfoldable pub among : (ℕ → NearestIntersection) → ℕ → NearestIntersection
 among answer n =
     atOr answer Miss (orElse (firstBelow n (λ k. isRefused (answer k))) (bestBelow (λ j i. lt (distanceIn (answer j)) (distanceIn (answer i))) n (λ k. isHit (answer k))))
+
+-- Of two answers, one behind the other (02: P5 goes on from it): a refusal stands, and a hit as long as the next is not nearer.
+unfoldable pub joined : NearestIntersection → NearestIntersection → NearestIntersection
+joined (Refused number) b = Refused number
+joined Miss b = b
+joined (Hit h k) (Hit h′ k′) = cond (lt (h′ .«t_hit») (h .«t_hit»)) (Hit h′ k′) (Hit h k)
+joined (Hit h k) Miss = Hit h k
+joined (Hit h k) (Refused number) = Refused number
+
+-- the answer of one curve, as number n of a list
+abbrev pub asNumber : ℕ → NearestIntersection → NearestIntersection
+asNumber n (Hit h k) = Hit h n
+asNumber n Miss = Miss
+asNumber n (Refused number) = Refused number
 
 -- ---- one curve, as number k
 
