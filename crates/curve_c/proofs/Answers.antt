@@ -1,4 +1,4 @@
--- What a returned number means: 0 is an answer and never a refusal, and of curve_intersect neither is 1. Assumes nothing.
+-- What a returned number means: 0 is an answer and never a refusal, and of curve_intersect and curve_nearest neither is 1. Assumes nothing.
 use mathlib.Core.Bool.{Bool, true, false, cond}
 use mathlib.Core.List.{List}
 use mathlib.Core.Logic.{⊎-elim}
@@ -31,6 +31,11 @@ use Rattle.intersect.specs.declared.Intersection.the-variants.{Hit, Miss, Refus
 use Rattle.interaction.specs.declared.SurfaceInteraction.{SurfaceInteraction}
 use Rattle.intersect.specs.Intersect.{intersectOf}
 use Rattle.intersect.proofs.IntersectCorrect.{refusal-tells}
+use Rattle.nearest.specs.declared.NearestIntersection.{NearestIntersection}
+use Rattle.nearest.specs.declared.NearestIntersection.the-variants as nearest
+use Rattle.nearest.specs.Answer.{nearestNumber}
+use Rattle.nearest.proofs.FirstRefusal as nearest-answers
+use Rattle.nearest.proofs.FirstRefusal.{nearest-numbered}
 use Rattle.grammar.specs.Head.{headOf}
 use Rattle.sheet.specs.Sheet.{pointsOf, rayCount, raysOf, isWhole, noRays, refusedWith, paramsIn, withCurves, sheetWithin, sheetOf}
 use Rattle.grammar.specs.declared.head.Head.{Head}
@@ -41,7 +46,7 @@ use Rattle.create.specs.Answer.{createdNumber}
 use Rattle.measure.specs.Answer.{boundNumber, areaNumber}
 use Rattle.intersect.specs.Answer.{metNumber}
 use Rattle.sheet.specs.Answer.{replyNumber}
-use Rattle.curve_c.specs.Calls.{metBy}
+use Rattle.curve_c.specs.Calls.{metBy, nearestBy}
 use Rattle.geometry.specs.Ray.{rayFrom}
 
 -- ---- what is told by a table of refusals
@@ -105,6 +110,27 @@ met-misses piece o2w w2o reverse ray = go _ (met-numbered piece (matrixFrom o2w 
     go (Hit h n) k e = absurd (omega (arith, e))
     go (Miss n) k e = (n, refl)
     go (Refused number) k e = absurd (omega (arith, k, e))
+
+-- ---- curve_nearest
+
+pub nearest-hits : (list o2w w2o : List Float) (reverse : ℕ) (ray : List Float) → nearestNumber (nearestBy list o2w w2o reverse ray) ≡ 0
+    → (h : SurfaceInteraction) × (k : ℕ) × (nearestBy list o2w w2o reverse ray ≡ nearest.Hit h k)
+unfolding nearestBy
+nearest-hits list o2w w2o reverse ray = go _ (nearest-numbered list (matrixFrom o2w 0) (matrixFrom w2o 0) _ (rayFrom ray 0))
+  where
+    go : (r : NearestIntersection) → nearest-answers.Numbered r → nearestNumber r ≡ 0 → (h : SurfaceInteraction) × (k : ℕ) × (r ≡ nearest.Hit h k)
+    go (nearest.Hit h k) n e = (h, k, refl)
+    go nearest.Miss n e = absurd (omega (arith, e))
+    go (nearest.Refused number) n e = absurd (omega (arith, n, e))
+
+pub nearest-misses : (list o2w w2o : List Float) (reverse : ℕ) (ray : List Float) → nearestNumber (nearestBy list o2w w2o reverse ray) ≡ 1 → nearestBy list o2w w2o reverse ray ≡ nearest.Miss
+unfolding nearestBy
+nearest-misses list o2w w2o reverse ray = go _ (nearest-numbered list (matrixFrom o2w 0) (matrixFrom w2o 0) _ (rayFrom ray 0))
+  where
+    go : (r : NearestIntersection) → nearest-answers.Numbered r → nearestNumber r ≡ 1 → r ≡ nearest.Miss
+    go (nearest.Hit h k) n e = absurd (omega (arith, e))
+    go nearest.Miss n e = refl
+    go (nearest.Refused number) n e = absurd (omega (arith, n, e))
 
 -- ---- curve_sheet
 

@@ -1,7 +1,7 @@
 pub mod Among
+pub mod FirstRefusal
 pub mod NearestCorrect
 pub mod OneMore
 pub mod SameRecord
-mod FirstRefusal
 mod Keeping
 mod LeafSays
