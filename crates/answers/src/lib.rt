@@ -5,6 +5,7 @@ mod geometry_kinds;
 mod kind;
 mod places;
 mod put;
+mod ray_kinds;
 mod transform_kinds;
 
 pub use kind::Kind;
@@ -33,6 +34,6 @@ pub fn answer(kind: Kind, words: &Words, floats: &Floats, out: &mut Out) -> usiz
         Kind::ObjectBound => curve_kinds::object_bound(floats, out),
         Kind::WorldBound => curve_kinds::world_bound(floats, out),
         Kind::CreateCurveShape => create_kind::create_curve_shape(words, floats, out),
-        Kind::Intersect => curve_kinds::intersect(words, floats, out),
+        Kind::Intersect => ray_kinds::intersect(words, floats, out),
     }
 }

@@ -52,10 +52,8 @@ pub const P_MAX: usize = P_MIN + POINT_FLOATS;
 
 const P_MAX_END: usize = P_MAX + POINT_FLOATS;
 
-// What has a curve: it alone, with a matrix behind, or with all that a ray takes.
-pub const CURVE: usize = 0;
-
-pub const OBJECT_TO_WORLD: usize = CURVE + FLOATS;
+// A cast, by the oracle's name: what a line of intersect has behind its curve. The places are from its start.
+pub const OBJECT_TO_WORLD: usize = 0;
 
 pub const WORLD_TO_OBJECT: usize = OBJECT_TO_WORLD + MATRIX_FLOATS;
 
@@ -63,7 +61,16 @@ pub const REVERSE: usize = WORLD_TO_OBJECT + MATRIX_FLOATS;
 
 pub const RAY: usize = REVERSE + 1;
 
-const RAY_END: usize = RAY + RAY_FLOATS;
+const CAST_WORDS: usize = RAY + RAY_FLOATS;
+
+// What has a curve: it alone, with a matrix behind, or with a cast.
+pub const CURVE: usize = 0;
+
+pub const CURVE_END: usize = CURVE + FLOATS;
+
+const CURVE_MATRIX_END: usize = CURVE_END + MATRIX_FLOATS;
+
+const CURVE_CAST_END: usize = CURVE_END + CAST_WORDS;
 
 // create_curve_shape: the parameters, the list's length, how many floats follow, and these.
 pub const DEGREE: usize = 0;
@@ -102,9 +109,9 @@ pub fn input_words(kind: Kind, words: &Words) -> usize {
         Kind::TransformRayError => MATRIX_RAY_END,
         Kind::TransformBounds => P_MAX_END,
         Kind::LookAt => UP_END,
-        Kind::Area | Kind::ObjectBound => OBJECT_TO_WORLD,
-        Kind::WorldBound => WORLD_TO_OBJECT,
+        Kind::Area | Kind::ObjectBound => CURVE_END,
+        Kind::WorldBound => CURVE_MATRIX_END,
         Kind::CreateCurveShape => points_end(words[POINTS_LEN]),
-        Kind::Intersect => RAY_END,
+        Kind::Intersect => CURVE_CAST_END,
     }
 }
