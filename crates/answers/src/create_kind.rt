@@ -10,12 +10,13 @@ use crate::places::POINTS_ROOM;
 use crate::places::SPLIT_DEPTH;
 use crate::places::WIDTH0;
 use crate::places::WIDTH1;
+use crate::places::size_of;
 use crate::put::DONE;
+use crate::put::NO_ROOM;
 use crate::put::put_status;
 use create::Created;
 use create::MOST_CURVES;
 use curve::FLOATS;
-use lines::ANSWER_WORDS;
 use lines::Floats;
 use lines::Out;
 use lines::Words;
@@ -25,9 +26,6 @@ use lines::put_word;
 const SPARE: usize = 100;
 
 const LIST_ROOM: usize = FLOATS * MOST_CURVES + SPARE;
-
-// More words than an answer has: a line for which there is no room differs.
-const NO_ROOM: usize = ANSWER_WORDS + 1;
 
 fn put_created(out: &mut Out, curves: u32, hash: u64) -> usize {
     let count = put_status(out, DONE);
@@ -58,11 +56,6 @@ fn create(
         Created::Curves(n) => put_created(out, n, lines::hash(list)),
         Created::Refused(number) => put_status(out, number),
     }
-}
-
-// The cast of a parameter asks nothing, that of an element a bound.
-fn size_of(word: u32) -> usize {
-    word as usize
 }
 
 pub fn create_curve_shape(words: &Words, floats: &Floats, out: &mut Out) -> usize {

@@ -16,6 +16,7 @@ pub enum Kind {
     WorldBound,
     CreateCurveShape,
     Intersect,
+    Nearest,
 }
 
 // Whether a kind's answer is a box, in which -0.0 equals 0.0.

@@ -35,5 +35,6 @@ pub fn answer(kind: Kind, words: &Words, floats: &Floats, out: &mut Out) -> usiz
         Kind::WorldBound => curve_kinds::world_bound(floats, out),
         Kind::CreateCurveShape => create_kind::create_curve_shape(words, floats, out),
         Kind::Intersect => ray_kinds::intersect(words, floats, out),
+        Kind::Nearest => ray_kinds::nearest(words, floats, out),
     }
 }

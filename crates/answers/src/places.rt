@@ -52,7 +52,7 @@ pub const P_MAX: usize = P_MIN + POINT_FLOATS;
 
 const P_MAX_END: usize = P_MAX + POINT_FLOATS;
 
-// A cast, by the oracle's name: what a line of intersect has behind its curve. The places are from its start.
+// A cast, by the oracle's name: what a line of intersect or nearest has behind its curves. The places are from its start.
 pub const OBJECT_TO_WORLD: usize = 0;
 
 pub const WORLD_TO_OBJECT: usize = OBJECT_TO_WORLD + MATRIX_FLOATS;
@@ -71,6 +71,13 @@ pub const CURVE_END: usize = CURVE + FLOATS;
 const CURVE_MATRIX_END: usize = CURVE_END + MATRIX_FLOATS;
 
 const CURVE_CAST_END: usize = CURVE_END + CAST_WORDS;
+
+// nearest: how many floats the list has, these, and a cast.
+pub const CURVES_LEN: usize = 0;
+
+pub const CURVES: usize = 1;
+
+pub const CURVES_ROOM: usize = LINE_WORDS - CURVES - CAST_WORDS;
 
 // create_curve_shape: the parameters, the list's length, how many floats follow, and these.
 pub const DEGREE: usize = 0;
@@ -93,8 +100,17 @@ pub const POINTS: usize = 8;
 
 pub const POINTS_ROOM: usize = LINE_WORDS - POINTS;
 
+// `as` asks nothing of a parameter, and a bound of an element.
+pub fn size_of(word: u32) -> usize {
+    word as usize
+}
+
 fn points_end(len: u32) -> usize {
     POINTS + len as usize
+}
+
+fn curves_cast_end(len: u32) -> usize {
+    CURVES + len as usize + CAST_WORDS
 }
 
 // How many words of a line are inputs.
@@ -113,5 +129,6 @@ pub fn input_words(kind: Kind, words: &Words) -> usize {
         Kind::WorldBound => CURVE_MATRIX_END,
         Kind::CreateCurveShape => points_end(words[POINTS_LEN]),
         Kind::Intersect => CURVE_CAST_END,
+        Kind::Nearest => curves_cast_end(words[CURVES_LEN]),
     }
 }

@@ -3,12 +3,16 @@ use geometry::Bounds3f;
 use geometry::Point3f;
 use geometry::Ray;
 use geometry::Vector3f;
+use lines::ANSWER_WORDS;
 use lines::Out;
 use lines::put_floats;
 use lines::put_word;
 
 // The status of an answer that is no refusal.
 pub const DONE: u8 = 0;
+
+// More words than an answer has: a line for which there is no room differs.
+pub const NO_ROOM: usize = ANSWER_WORDS + 1;
 
 // The status that the answers of some kinds start with: it is done, it is a miss, or a refusal's number.
 pub fn put_status(out: &mut Out, status: u8) -> usize {

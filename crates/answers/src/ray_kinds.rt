@@ -1,4 +1,5 @@
-// The library's answers of rays: where one meets a curve. Each function answers how many words it put.
+// The library's answers of rays: where one meets a curve, and where it first meets a list of them. Each function answers
+// how many words it put.
 ghost use mathlib.Core.Path.{_≡_};
 ghost use Prim.Native.Nat.{_+_, _*_, _≤_};
 ghost use lib.ListN.{length};
@@ -6,14 +7,20 @@ ghost use Rattle.geometry.specs.Ray.{rayFloats};
 ghost use Rattle.matrix.specs.Matrix.{matrixFloats};
 use crate::curve_kinds::curve_in;
 use crate::places::CURVE_END;
+use crate::places::CURVES;
+use crate::places::CURVES_LEN;
+use crate::places::CURVES_ROOM;
 use crate::places::OBJECT_TO_WORLD;
 use crate::places::RAY;
 use crate::places::REVERSE;
 use crate::places::WORLD_TO_OBJECT;
+use crate::places::size_of;
 use crate::put::DONE;
+use crate::put::NO_ROOM;
 use crate::put::put_status;
 use geometry::Ray;
 use geometry::ray_from;
+use interaction::SurfaceInteraction;
 use interaction::record_floats;
 use intersect::Intersection;
 use lines::Floats;
@@ -23,11 +30,12 @@ use lines::put_floats;
 use lines::put_word;
 use matrix::Matrix4x4;
 use matrix::matrix_from;
+use nearest::NearestIntersection;
 
 // The status of a miss.
 const MISSED: u8 = 1;
 
-// What a line has behind its curve.
+// What a line has behind its curves.
 struct Cast {
     object_to_world: Matrix4x4,
     world_to_object: Matrix4x4,
@@ -47,13 +55,16 @@ fn cast_from(words: &[u32], floats: &[f32], at: usize) -> Cast
     }
 }
 
+// A hit's number is how many subcurves were looked at, or which curve of the list it is on.
+fn put_hit(out: &mut Out, number: u32, record: SurfaceInteraction) -> usize {
+    let at = put_status(out, DONE);
+    let record_at = put_word(out, at, number);
+    put_floats(out, record_at, &record_floats(record))
+}
+
 fn put_intersection(out: &mut Out, i: Intersection) -> usize {
     match i {
-        Intersection::Hit(record, looked) => {
-            let count = put_status(out, DONE);
-            let at = put_word(out, count, looked);
-            put_floats(out, at, &record_floats(record))
-        }
+        Intersection::Hit(record, looked) => put_hit(out, looked, record),
         Intersection::Miss(looked) => {
             let count = put_status(out, MISSED);
             put_word(out, count, looked)
@@ -72,4 +83,31 @@ pub fn intersect(words: &Words, floats: &Floats, out: &mut Out) -> usize {
         c.ray,
     );
     put_intersection(out, met)
+}
+
+// The remainder spares a proof that k fits: a list of as many curves has no room in a line.
+fn put_nearest(out: &mut Out, i: NearestIntersection) -> usize {
+    match i {
+        NearestIntersection::Hit(record, k) => put_hit(out, (k % 0x1_0000_0000) as u32, record),
+        NearestIntersection::Miss => put_status(out, MISSED),
+        NearestIntersection::Refused(number) => put_status(out, number),
+    }
+}
+
+pub fn nearest(words: &Words, floats: &Floats, out: &mut Out) -> usize {
+    let len = size_of(words[CURVES_LEN]);
+    if len <= CURVES_ROOM {
+        let all = &floats[..];
+        let end = CURVES + len;
+        let c = cast_from(words, floats, end);
+        let met = nearest::nearest(
+            &all[CURVES..end],
+            c.object_to_world,
+            c.world_to_object,
+            c.reverse,
+            c.ray,
+        );
+        return put_nearest(out, met);
+    }
+    NO_ROOM
 }
