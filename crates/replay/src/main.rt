@@ -85,4 +85,5 @@ fn main() {
     replay(Kind::WorldBound, b"world_bound.txt");
     replay(Kind::CreateCurveShape, b"create_curve_shape.txt");
     replay(Kind::Intersect, b"intersect.txt");
+    replay(Kind::Nearest, b"nearest.txt");
 }
