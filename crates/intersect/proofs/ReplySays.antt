@@ -33,13 +33,13 @@ use Rattle.intersect.specs.Correct.{NoneThrown, OpenAnd, NoneIn, FirstIs
 use Rattle.intersect.specs.Intersect.{replyOf, stopOf, lastOf, countOf, repliedAt}
 
 -- a leaf that stops the walk passes
-stop-passes : (l : Leaf) → stops l ≡ true → passes l ≡ true
+pub stop-passes : (l : Leaf) → stops l ≡ true → passes l ≡ true
 stop-passes (Passes at f) e = refl
 stop-passes Fails e = e
 stop-passes (NoFrame k t) e = refl
 
 -- an open leaf that fails the test
-neither : (a b : Bool) → a && b ≡ false → a ≡ true → b ≡ false
+pub neither : (a b : Bool) → a && b ≡ false → a ≡ true → b ≡ false
 neither true b e o = e
 neither false b e o = absurd (false≢true o)
 

@@ -2,7 +2,7 @@
 use mathlib.Core.Bool.{Bool, true, false, not, cond, _&&_, and-eq-true-iff, false≢true, true≢false}
 use mathlib.Core.List.{List, [], _∷_, _++_}
 use mathlib.Core.Option.{Option, none, some}
-use mathlib.Core.Path.{_≡_, refl, sym, ap, ap₂, subst, _∙_}
+use mathlib.Core.Path.{_≡_, refl, sym, ap, ap₂, _∙_}
 use Prim.Native.Nat.{ℕ, zero, suc, _/_, _%_, _^_, _≤_}
 use native.Mathlib.Omega.{arith}
 use lib.Dec.{eqb, lit≤}
@@ -13,7 +13,6 @@ use Rattle.matrix.specs.declared.Matrix4x4.{Matrix4x4}
 use Rattle.limits.specs.List.{upTo}
 use Rattle.limits.specs.Refusal.{Table, firstOf, told}
 use Rattle.limits.specs.Within.{matrixWithin, rayWithin, rayRefusals}
-use Rattle.bezier.specs.declared.cubic.Cubic.{Cubic}
 use Rattle.bisection.specs.Below.{only, orElse, atOr, firstBelow, bestBelow}
 use Rattle.bisection.proofs.Below.{IsFirst, IsIn, first-is, best-in}
 use Rattle.curve.specs.declared.curve.Curve.{Curve}
@@ -33,9 +32,10 @@ use Rattle.leaf.specs.Record.{flipsOf}
 use Rattle.leaf.proofs.NoFrame.{no-frame}
 use Rattle.walk.specs.declared.rule.Rule.the-variants as rule
 use Rattle.walk.specs.Leaves.{subcurveAt, openAt, leafAt}
-use Rattle.walk.specs.Rule.{counts, ends, distanceOf}
+use Rattle.walk.specs.Rule.{counts, ends}
 use Rattle.walk.specs.Walk.{endBy, bestBy, leafBy}
 use Rattle.intersect.specs.Correct.{framingRefusals}
+use Rattle.intersect.proofs.ReplySays.{neither}
 use Rattle.nearest.specs.declared.NearestIntersection.{NearestIntersection}
 use Rattle.nearest.specs.declared.NearestIntersection.the-variants.{Hit, Miss, Refused}
 use Rattle.nearest.specs.Correct.{numberOf, leafRefusals, pieceRefusals, refusals}
@@ -131,17 +131,13 @@ module _ (c : Curve) (v : View) (s : Subcurve) (d : ℕ) (flip : Bool) (k : ℕ)
       framed Fails e n = refl
       framed (NoFrame number t) e n = absurd (true≢false (sym e ∙ n))
 
-      open-false : (a b : Bool) → a && b ≡ false → a ≡ true → b ≡ false
-      open-false true b e o = e
-      open-false false b e o = absurd (false≢true o)
-
       go : (o : Option ℕ) → IsFirst (2 ^ d) openEnds o → (p : Option ℕ) → IsIn (2 ^ d) openCounts p
           → refusalIn (leafAnswer c flip k ray (atOr (leafAt c v s d) Fails (orElse o p))) ≡ mapped (λ i. numberOf (leafAt c v s d i)) o
       go (some i) h p h′ = ending (leafAt c v s d i) (and-eq-true-iff (openAt c v s d i) (ends rule.Nearest (leafAt c v s d i)) .0 (h .1) .1)
       go none h none h′ = refl
       go none h (some i) h′ =
           let here = and-eq-true-iff (openAt c v s d i) (counts rule.Nearest (leafAt c v s d i)) .0 (h′ .1) in
-          framed (leafAt c v s d i) (here .1) (open-false (openAt c v s d i) (ends rule.Nearest (leafAt c v s d i)) (h i (h′ .0)) (here .0))
+          framed (leafAt c v s d i) (here .1) (neither (openAt c v s d i) (ends rule.Nearest (leafAt c v s d i)) (h i (h′ .0)) (here .0))
 
 module _ (w2o : Matrix4x4) (r : Ray) (flip : Bool) (k : ℕ) (l : List Float) where
   piece-refusal : refusalIn (answerOf flip (aimedOf w2o r) k l) ≡ firstIn (pieceRefusals w2o r l)

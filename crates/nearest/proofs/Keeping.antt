@@ -1,6 +1,6 @@
 -- Curve by curve through the list: what each return gives. Assumes nothing.
 use mathlib.Core.Bool.{Bool, true, false, not, _&&_, and-eq-true-iff, true≢false, false≢true}
-use mathlib.Core.List.{List, [], _∷_}
+use mathlib.Core.List.{List}
 use mathlib.Core.Path.{_≡_, refl, sym, ap, _∙_}
 use Prim.Native.Nat.{ℕ, _+_, _/_, _≤_, _<_}
 use native.Mathlib.Numerals.{add-one}

@@ -1,10 +1,10 @@
 -- One curve: what the leaf that decides says of all of them. Assumes nothing.
 use mathlib.Core.Bool.{Bool, true, false, not, _&&_, and-eq-true-iff, false≢true, true≢false}
-use mathlib.Core.Logic.{inl, inr, ⊎-elim}
+use mathlib.Core.Logic.{⊎-elim}
 use mathlib.Core.Option.{Option, none, some}
 use mathlib.Core.Path.{_≡_, refl, sym, ap, _∙_}
 use Prim.Native.Nat.{ℕ, _^_, _<_}
-use lib.Ieee.{Float, nan, inf, fin, isNan, lt}
+use lib.Ieee.{Float, isNan, lt}
 use Rattle.float.proofs.Order.{lt-trans, not-lt-trans, lt-asym, lt-itself}
 use Rattle.bisection.specs.Below.{orElse, atOr, firstBelow, bestBelow}
 use Rattle.bisection.specs.Nodes.{passesAt, firstOpen, bestOpen}
@@ -12,24 +12,18 @@ use Rattle.bisection.proofs.Below.{IsFirst, IsBest, cases, first-is, best-is}
 use Rattle.curve.specs.declared.curve.Curve.{Curve}
 use Rattle.frame.specs.declared.frame.View.{View}
 use Rattle.overlap.specs.declared.subcurve.Subcurve.{Subcurve}
-use Rattle.overlap.specs.Subcurve.{lowHalf, highHalf}
 use Rattle.leaf.specs.declared.leaf.Crossing.{Crossing}
 use Rattle.leaf.specs.declared.leaf.Frame.{Frame}
 use Rattle.leaf.specs.declared.leaf.Leaf.{Leaf}
 use Rattle.leaf.specs.declared.leaf.Leaf.the-variants.{Passes, Fails, NoFrame}
-use Rattle.leaf.specs.Leaf.{leafOf}
 use Rattle.walk.specs.declared.rule.Rule.the-variants.{Nearest}
-use Rattle.walk.specs.Leaves.{subcurveAt, thrown, wholeOpen, openAt, leafAt}
+use Rattle.walk.specs.Leaves.{subcurveAt, openAt, leafAt}
 use Rattle.walk.specs.Rule.{passes, hasNoFrame, distanceOf, counts, ends, beats, isBetter}
 use Rattle.walk.specs.Walk.{endBy, bestBy, leafBy}
+use Rattle.walk.proofs.Rules.{nan-below}
+use Rattle.intersect.proofs.ReplySays.{neither}
 
 -- ---- a leaf
-
-nan-not-below : (t x : Float) → not (isNan t) ≡ false → lt t x ≡ false
-unfolding isNan lt
-nan-not-below nan x e = refl
-nan-not-below (inf s) x e = absurd (true≢false e)
-nan-not-below (fin s m k) x e = absurd (true≢false e)
 
 pub counts-number : (l : Leaf) → counts Nearest l ≡ true → isNan (distanceOf l) ≡ false
 unfolding counts
@@ -42,9 +36,9 @@ counts-number l e = go (isNan (distanceOf l)) (and-eq-true-iff (passes l) (not (
 -- one that passes and does not count lies at a NaN
 pub uncounted-not-below : (l : Leaf) (x : Float) → passes l ≡ true → counts Nearest l ≡ false → lt (distanceOf l) x ≡ false
 unfolding counts
-uncounted-not-below (Passes at f) x p e = nan-not-below (at .t) x e
+uncounted-not-below (Passes at f) x p e = nan-below (at .t) x e
 uncounted-not-below Fails x p e = absurd (false≢true p)
-uncounted-not-below (NoFrame k t) x p e = nan-not-below t x e
+uncounted-not-below (NoFrame k t) x p e = nan-below t x e
 
 -- one that counts and does not end the walk has a frame
 abbrev pub HasFrame : Leaf → Type 0
@@ -84,10 +78,6 @@ module _ (c : Curve) (v : View) (s : Subcurve) (d : ℕ) where
 
   both : (a b : Bool) → a && b ≡ true → (a ≡ true) × (b ≡ true)
   both a b e = and-eq-true-iff a b .0 e
-
-  one-false : (a b : Bool) → a && b ≡ false → a ≡ true → b ≡ false
-  one-false true b e o = e
-  one-false false b e o = absurd (false≢true o)
 
   counted-number : (i : ℕ) → openCounts i ≡ true → isNan (distanceOf (leaf i)) ≡ false
   counted-number i e = counts-number (leaf i) (both (isOpenAt i) (counts Nearest (leaf i)) e .1)
@@ -130,5 +120,5 @@ module _ (c : Curve) (v : View) (s : Subcurve) (d : ℕ) where
 
       go : (o : Option ℕ) → IsFirst (2 ^ d) openEnds o → (p : Option ℕ) → IsBest nearer openCounts (2 ^ d) p → Says (atOr leaf Fails (orElse o p))
       go (some i) h p h′ = let here = both (isOpenAt i) (ends Nearest (leaf i)) (h .1) in ending i (leaf i) (h .0) (here .0) refl (here .1)
-      go none h (some i) h′ = let b = best-says i h′ in deciding i (leaf i) refl (has-frame (leaf i) (b .2) (one-false (isOpenAt i) (ends Nearest (leaf i)) (h i (b .0)) (b .1))) b
-      go none h none h′ = λ j l o. one-false (isOpenAt j) (counts Nearest (leaf j)) (h′ j l) o
+      go none h (some i) h′ = let b = best-says i h′ in deciding i (leaf i) refl (has-frame (leaf i) (b .2) (neither (isOpenAt i) (ends Nearest (leaf i)) (h i (b .0)) (b .1))) b
+      go none h none h′ = λ j l o. neither (isOpenAt j) (counts Nearest (leaf j)) (h′ j l) o

@@ -2,9 +2,9 @@
 use mathlib.Core.Bool.{Bool, true, false, not, cond, false≢true, true≢false}
 use mathlib.Core.List.{List}
 use mathlib.Core.Logic.{_⊎_, inl, inr, ⊎-elim}
-use mathlib.Core.Option.{Option, none, some, Option·none-ne-some}
+use mathlib.Core.Option.{Option, none, some}
 use mathlib.Core.Path.{_≡_, refl, sym, ap, subst, _∙_}
-use Prim.Native.Nat.{ℕ, zero, suc, _/_, _^_, _≤_, _<_}
+use Prim.Native.Nat.{ℕ, zero, suc, _/_, _<_}
 use native.Mathlib.Omega.{arith}
 use lib.Ieee.{Float, isNan, lt}
 use lib.ListN.{length}
@@ -36,8 +36,8 @@ use Rattle.nearest.specs.declared.NearestIntersection.{NearestIntersecti
 use Rattle.nearest.specs.declared.NearestIntersection.the-variants.{Hit, Miss, Refused}
 use Rattle.nearest.specs.Correct.{OpenLeaf, IsRecord, Before, framedAt, LeafIn, NearestIs, refusals, Correct}
 use Rattle.nearest.specs.Nearest.{isHit, isRefused, distanceIn, among, leafAnswer, framedAnswer, answerOf, answerAt, nearestAimed, nearestRefusals, nearestOf}
-use Rattle.nearest.proofs.FirstRefusal.{firstIn, number-of-first, refusalIn, refusal-first, Numbered, nearest-numbered}
-use Rattle.nearest.proofs.LeafSays.{counts-number, uncounted-not-below, Best, Says, leaf-says}
+use Rattle.nearest.proofs.FirstRefusal.{number-of-first, refusalIn, refusal-first, Numbered, nearest-numbered}
+use Rattle.nearest.proofs.LeafSays.{counts-number, uncounted-not-below, Says, leaf-says}
 
 -- whether a leaf that passes counts
 counted? : (l : Leaf) → (counts rule.Nearest l ≡ true) ⊎ (counts rule.Nearest l ≡ false)

@@ -11,7 +11,6 @@ use Rattle.matrix.specs.declared.Matrix4x4.{Matrix4x4}
 use Rattle.limits.specs.Refusal.{firstOf}
 use Rattle.limits.specs.Within.{rayRefusals}
 use Rattle.limits.proofs.Refusals.{passed}
-use Rattle.bezier.specs.declared.cubic.Cubic.{Cubic}
 use Rattle.bisection.specs.Below.{orElse}
 use Rattle.curve.specs.declared.curve.Curve.{Curve}
 use Rattle.curve.specs.Curve.{isCurve}
@@ -32,26 +31,19 @@ use Rattle.leaf.specs.Record.{flipsOf, recordOf}
 use Rattle.interaction.specs.declared.SurfaceInteraction.{SurfaceInteraction}
 use Rattle.walk.specs.declared.rule.Rule.the-variants as rule
 use Rattle.walk.specs.Leaves.{openAt, leafAt}
-use Rattle.walk.specs.Rule.{passes, stops, counts}
+use Rattle.walk.specs.Rule.{passes, counts}
 use Rattle.walk.specs.Walk.{leafBy}
-use Rattle.intersect.specs.declared.Intersection.{Intersection}
 use Rattle.intersect.specs.declared.Intersection.the-variants as met
 use Rattle.intersect.specs.Correct.{FirstIs, LastIs}
-use Rattle.intersect.specs.Intersect.{replyOf, stopOf, lastOf, countOf, repliedAt, intersectWhole, intersectFramed, intersectRefusals, intersectOf}
-use Rattle.intersect.proofs.ReplySays.{decided}
-use Rattle.nearest.specs.declared.NearestIntersection.{NearestIntersection}
-use Rattle.nearest.specs.declared.NearestIntersection.the-variants.{Hit, Refused}
+use Rattle.intersect.specs.Intersect.{stopOf, lastOf, countOf, repliedAt, intersectWhole, intersectFramed, intersectRefusals, intersectOf}
+use Rattle.intersect.proofs.ReplySays.{stop-passes, decided}
+use Rattle.nearest.specs.declared.NearestIntersection.the-variants.{Hit}
 use Rattle.nearest.specs.Correct.{OpenLeaf}
-use Rattle.nearest.specs.Nearest.{leafAnswer, framedAnswer, answerOf, nearestAimed, nearestRefusals, nearestOf}
+use Rattle.nearest.specs.Nearest.{leafAnswer, framedAnswer, answerOf, nearestOf}
 use Rattle.nearest.proofs.LeafSays.{Says, leaf-says}
 use Rattle.nearest.proofs.OneMore.{alone, whole-list}
 
 -- ---- the leaves
-
-stop-passes : (l : Leaf) → stops l ≡ true → passes l ≡ true
-stop-passes (Passes at f) e = refl
-stop-passes Fails e = e
-stop-passes (NoFrame k t) e = refl
 
 module _ (c : Curve) (v : View) (s : Subcurve) (d : ℕ) (i : ℕ) (x : Crossing) (f : Frame)
     (below : i < 2 ^ d) (is-open : openAt c v s d i ≡ true) (answers : leafAt c v s d i ≡ Passes x f)

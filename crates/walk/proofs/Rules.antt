@@ -67,7 +67,8 @@ no-frame-ends Nearest k t = refl
 
 -- ---- which leaf stands
 
-nan-below : (t x : Float) → not (isNan t) ≡ false → lt t x ≡ false
+-- a NaN is below nothing
+pub nan-below : (t x : Float) → not (isNan t) ≡ false → lt t x ≡ false
 unfolding isNan lt
 nan-below nan x e = refl
 nan-below (inf s) x e = absurd (true≢false e)

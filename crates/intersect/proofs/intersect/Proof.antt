@@ -1,5 +1,4 @@
 -- `intersect::intersect` meets its contract: 9 is told, then the number of the matrices and the ray, or the framed curve's reply. Assumes nothing.
-use borrow.Author.Needs.{needs}
 use Rattle.limits.specs.Refusal.{firstOf}
 use Rattle.limits.proofs.Refusals.{told-answer, told-number}
 use Rattle.curve.proofs.Records.{is-long}
