@@ -7,7 +7,7 @@ use crate::answer::Output;
 use declared::*;
 use oracle::beam::Cast;
 use oracle::inputs::Matrix;
-use oracle::layout::{BEAMS_FLOATS, BOX_FLOATS, RAY_FLOATS, RECORD_FLOATS, SHEET_NUMBERS};
+use oracle::layout::{BEAMS_FLOATS, BOX_FLOATS, RECORD_FLOATS, SHEET_NUMBERS};
 use oracle::limits::ShapeParams;
 
 #[path = "../../../bindings/rust/src/declared.rs"]
@@ -15,20 +15,6 @@ mod declared;
 
 /// How many words of an output a usize takes, the low one first.
 pub const USIZE_WORDS: usize = 2;
-
-// The bindings do not declare it yet.
-extern "C" {
-    fn curve_nearest(
-        list: *const f32,
-        len: usize,
-        object_to_world: *const Matrix,
-        world_to_object: *const Matrix,
-        reverse: u32,
-        ray: *const [f32; RAY_FLOATS],
-        record: *mut [f32; RECORD_FLOATS],
-        piece: *mut usize,
-    ) -> u32;
-}
 
 pub fn create(params: &ShapeParams, list: &mut Output, pieces: &mut Output) -> u32 {
     let [width0, width1] = params.widths;
