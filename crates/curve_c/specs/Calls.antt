@@ -14,7 +14,7 @@ use Rattle.measure.specs.declared.bound.Bound.{Bound}
 use Rattle.measure.specs.declared.areas.Measured.{Measured}
 use Rattle.intersect.specs.Answer.{metRecord, metCount}
 use Rattle.intersect.specs.declared.Intersection.{Intersection}
-use Rattle.nearest.specs.Answer.{nearestRecord, nearestPiece}
+use Rattle.nearest.specs.Answer.{nearestRecord, nearestCurve}
 use Rattle.nearest.specs.Nearest.{nearestOf}
 use Rattle.nearest.specs.declared.NearestIntersection.{NearestIntersection}
 use Rattle.sheet.specs.Answer.{replyLine, replyCounts}
@@ -66,7 +66,7 @@ abbrev pub nearestAfter : NearestIntersection → List Float → List Float
 nearestAfter a = written recordFloats (nearestRecord a)
 
 abbrev pub pieceAfter : NearestIntersection → ℕ → ℕ
-pieceAfter a = written (λ k. k) (nearestPiece a)
+pieceAfter a = written (λ k. k) (nearestCurve a)
 
 -- ---- curve_sheet
 

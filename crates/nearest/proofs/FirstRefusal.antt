@@ -38,7 +38,7 @@ use Rattle.intersect.specs.Correct.{framingRefusals}
 use Rattle.intersect.proofs.ReplySays.{neither}
 use Rattle.nearest.specs.declared.NearestIntersection.{NearestIntersection}
 use Rattle.nearest.specs.declared.NearestIntersection.the-variants.{Hit, Miss, Refused}
-use Rattle.nearest.specs.Correct.{numberOf, leafRefusals, pieceRefusals, refusals}
+use Rattle.nearest.specs.Correct.{numberOf, leafRefusals, aloneRefusals, refusals}
 use Rattle.nearest.specs.Nearest.{isHit, isRefused, distanceIn, among, joined, leafAnswer, framedAnswer, answerOf, answerAt, nearestAimed, nearestRefusals, nearestOf}
 use Rattle.nearest.proofs.Among.{one-more, none-yet}
 use Rattle.nearest.proofs.LeafSays.{end-first, best-below}
@@ -140,9 +140,9 @@ module _ (c : Curve) (v : View) (s : Subcurve) (d : ℕ) (flip : Bool) (k : ℕ)
           framed (leafAt c v s d i) (here .1) (neither (openAt c v s d i) (ends rule.Nearest (leafAt c v s d i)) (h i (h′ .0)) (here .0))
 
 module _ (w2o : Matrix4x4) (r : Ray) (flip : Bool) (k : ℕ) (l : List Float) where
-  piece-refusal : refusalIn (answerOf flip (aimedOf w2o r) k l) ≡ firstIn (pieceRefusals w2o r l)
-  unfolding answerOf pieceRefusals framedCurve framedAnswer leafRefusals firstOf firstIn
-  piece-refusal = go (isCurve l) (withAim (curveFrom l) (aimedOf w2o r))
+  alone-refusal : refusalIn (answerOf flip (aimedOf w2o r) k l) ≡ firstIn (aloneRefusals w2o r l)
+  unfolding answerOf aloneRefusals framedCurve framedAnswer leafRefusals firstOf firstIn
+  alone-refusal = go (isCurve l) (withAim (curveFrom l) (aimedOf w2o r))
     where
       c : Curve
       c = curveFrom l
@@ -156,9 +156,9 @@ module _ (w2o : Matrix4x4) (r : Ray) (flip : Bool) (k : ℕ) (l : List Float) wh
 -- ---- the call
 
 module _ (list : List Float) (o2w w2o : Matrix4x4) (reverse : Bool) (r : Ray) where
-  before-pieces : (x : NearestIntersection) → refusalIn (told Refused (firstOf (nearestRefusals list o2w w2o r)) x) ≡ orElse (firstIn (nearestRefusals list o2w w2o r)) (refusalIn x)
+  before-curves : (x : NearestIntersection) → refusalIn (told Refused (firstOf (nearestRefusals list o2w w2o r)) x) ≡ orElse (firstIn (nearestRefusals list o2w w2o r)) (refusalIn x)
   unfolding nearestRefusals rayRefusals firstOf firstIn
-  before-pieces x = go (eqb (length list % floats) 0) (matrixWithin o2w && matrixWithin w2o) (rayWithin r)
+  before-curves x = go (eqb (length list % floats) 0) (matrixWithin o2w && matrixWithin w2o) (rayWithin r)
     where
       go : (a b d : Bool) → refusalIn (told Refused (cond (not a) 19 (cond (not b) 10 (cond (not d) 11 0))) x) ≡ orElse (cond (not a) (some 19) (cond (not b) (some 10) (cond (not d) (some 11) none))) (refusalIn x)
       go false b d = refl
@@ -169,8 +169,8 @@ module _ (list : List Float) (o2w w2o : Matrix4x4) (reverse : Bool) (r : Ray) wh
   pub refusal-first : refusalIn (nearestOf list o2w w2o reverse r) ≡ firstIn (refusals list o2w w2o r)
   unfolding nearestOf nearestAimed refusals answerAt
   refusal-first =
-      before-pieces _
-      ∙ ap (orElse (firstIn (nearestRefusals list o2w w2o r))) (refusal-among _ _ (λ k. piece-refusal w2o r (flipsOf reverse o2w) k _) _)
+      before-curves _
+      ∙ ap (orElse (firstIn (nearestRefusals list o2w w2o r))) (refusal-among _ _ (λ k. alone-refusal w2o r (flipsOf reverse o2w) k _) _)
       ∙ sym (first-append (nearestRefusals list o2w w2o r) _)
 
 -- ---- the numbers
@@ -191,9 +191,9 @@ leaf-numbered c v s d flip k ray (some i) = go (leafOf c v (subcurveAt s d i)) r
     go Fails e = tt
     go (NoFrame number t) e = omega (arith, no-frame c v (subcurveAt s d i) number t e .0)
 
-piece-numbered : (w2o : Matrix4x4) (r : Ray) (flip : Bool) (k : ℕ) (l : List Float) → Numbered (answerOf flip (aimedOf w2o r) k l)
+alone-numbered : (w2o : Matrix4x4) (r : Ray) (flip : Bool) (k : ℕ) (l : List Float) → Numbered (answerOf flip (aimedOf w2o r) k l)
 unfolding answerOf framedAnswer leafBy firstOf
-piece-numbered w2o r flip k l = go (isCurve l) (withAim (curveFrom l) (aimedOf w2o r))
+alone-numbered w2o r flip k l = go (isCurve l) (withAim (curveFrom l) (aimedOf w2o r))
   where
     go : (b : Bool) (f : Framed) → Numbered (told Refused (cond (not b) 9 0) (framedAnswer (curveFrom l) flip k f))
     go false f = lit≤ tt
@@ -216,7 +216,7 @@ among-numbered answer h n = go (orElse (firstBelow n (λ k. isRefused (answer k)
 pub nearest-numbered : (list : List Float) (o2w w2o : Matrix4x4) (reverse : Bool) (r : Ray) → Numbered (nearestOf list o2w w2o reverse r)
 unfolding nearestOf nearestAimed answerAt nearestRefusals rayRefusals firstOf
 nearest-numbered list o2w w2o reverse r =
-    go (eqb (length list % floats) 0) (matrixWithin o2w && matrixWithin w2o) (rayWithin r) _ (among-numbered _ (λ k. piece-numbered w2o r (flipsOf reverse o2w) k (curveAt list k)) (length list / floats))
+    go (eqb (length list % floats) 0) (matrixWithin o2w && matrixWithin w2o) (rayWithin r) _ (among-numbered _ (λ k. alone-numbered w2o r (flipsOf reverse o2w) k (curveAt list k)) (length list / floats))
   where
     go : (a b d : Bool) (x : NearestIntersection) → Numbered x → Numbered (told Refused (cond (not a) 19 (cond (not b) 10 (cond (not d) 11 0))) x)
     go false b d x h = lit≤ tt

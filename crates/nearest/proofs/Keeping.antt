@@ -25,8 +25,8 @@ use Rattle.walk.specs.Walk.{lastIn, Walked}
 use Rattle.walk.proofs.Rules.{number-in}
 use Rattle.nearest.specs.declared.NearestIntersection.{NearestIntersection}
 use Rattle.nearest.specs.declared.NearestIntersection.the-variants.{Miss, Refused}
-use Rattle.nearest.specs.declared.pieces.Kept.{Kept}
-use Rattle.nearest.specs.declared.pieces.Kept.the-variants as kept
+use Rattle.nearest.specs.declared.list.Kept.{Kept}
+use Rattle.nearest.specs.declared.list.Kept.the-variants as kept
 use Rattle.nearest.specs.Kept.{keptAnswer, keptRefused, isNearer, KeptBelow}
 use Rattle.nearest.specs.Nearest.{among, joined, leafAnswer, framedAnswer, answerOf, answerAt, nearestAimed}
 use Rattle.nearest.proofs.Among.{miss-behind, one-more, none-yet, refusal-is}
@@ -35,23 +35,23 @@ and-true : (b : Bool) → b && true ≡ false → b ≡ false
 and-true true e = e
 and-true false e = refl
 
--- ---- the returns of `walk_piece`
+-- ---- the returns of `walk_curve`
 
 module _ (l : List Float) (b : Bool) (tested : b ≡ isCurve l) (a : Aim) (flip : Bool) (k : ℕ) (x : List Float) where
-  pub piece-wrong : b ≡ false → leafAnswer (curveFrom l) flip k (a .ray) (lastIn 9 x) ≡ answerOf flip (aimed.Ray a) k l
+  pub curve-wrong : b ≡ false → leafAnswer (curveFrom l) flip k (a .ray) (lastIn 9 x) ≡ answerOf flip (aimed.Ray a) k l
   unfolding answerOf leafAnswer lastIn firstOf
-  piece-wrong e = rw (← tested, e)
+  curve-wrong e = rw (← tested, e)
 
-  pub piece-walked : b ≡ true → (w n : ℕ) → Walked rule.Nearest (curveFrom l) (framedAlong (curveFrom l) a) w x n → leafAnswer (curveFrom l) flip k (a .ray) (lastIn w x) ≡ answerOf flip (aimed.Ray a) k l
+  pub curve-walked : b ≡ true → (w n : ℕ) → Walked rule.Nearest (curveFrom l) (framedAlong (curveFrom l) a) w x n → leafAnswer (curveFrom l) flip k (a .ray) (lastIn w x) ≡ answerOf flip (aimed.Ray a) k l
   unfolding answerOf framedAnswer leafAnswer lastIn firstOf
-  piece-walked e w n h = rw (← tested, e) (go (framedAlong (curveFrom l) a) refl h)
+  curve-walked e w n h = rw (← tested, e) (go (framedAlong (curveFrom l) a) refl h)
     where
       go : (f : Framed) → framedAlong (curveFrom l) a ≡ f → Walked rule.Nearest (curveFrom l) f w x n → leafAnswer (curveFrom l) flip k (a .ray) (lastIn w x) ≡ framedAnswer (curveFrom l) flip k f
       go (framed.Curve ray v cp) f h = rw (h .0, framed-ray a (curveFrom l) ray v cp f)
       go framed.ZeroWeight f h = rw h
       go framed.ZeroLength f h = rw h
 
--- ---- the returns of `keep_piece`
+-- ---- the returns of `keep_curve`
 
 pub below-more : (k n : ℕ) (w : Kept) → k ≤ n → KeptBelow k w → KeptBelow n w
 unfolding KeptBelow
@@ -59,7 +59,7 @@ below-more k n (kept.Hit i) l h = omega arith
 below-more k n kept.Miss l h = tt
 below-more k n (kept.Refused number) l h = tt
 
-module _ (list p : List Float) (a : Aim) (k : ℕ) (w : Kept) (best found : List Float) (r : ℕ) (piece : p ≡ curveAt list k)
+module _ (list p : List Float) (a : Aim) (k : ℕ) (w : Kept) (best found : List Float) (r : ℕ) (sliced : p ≡ curveAt list k)
     (answered : (flip : Bool) (k : ℕ) → leafAnswer (curveFrom p) flip k (a .ray) (lastIn r found) ≡ answerOf flip (aimed.Ray a) k p) (flip : Bool) where
   abbrev before : NearestIntersection
   before = keptAnswer list (a .ray) flip w best
@@ -69,7 +69,7 @@ module _ (list p : List Float) (a : Aim) (k : ℕ) (w : Kept) (best found : List
 
   alone : answerAt flip (aimed.Ray a) list k ≡ here
   unfolding answerAt
-  alone = rw piece at (sym (answered flip k))
+  alone = rw sliced at (sym (answered flip k))
 
   module _ (hit : r ≡ 0) (t : Float) (b : Bool) (far : t ≡ distanceFrom found) (tested : b ≡ isNearer t w best) where
     pub keep-taken : b ≡ true → keptAnswer list (a .ray) flip (kept.Hit k) found ≡ joined before (answerAt flip (aimed.Ray a) list k)

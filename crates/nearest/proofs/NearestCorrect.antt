@@ -59,7 +59,7 @@ farther a b c n h k = go (lt a b) refl
 
 module _ (c : Curve) (flip : Bool) (k : ℕ) where
   -- a hit is on the leaf i: no other lies nearer, and each before it that counts lies farther
-  pub record PieceHit (f : Framed) (h : SurfaceInteraction) : Type 0 where
+  pub record CurveHit (f : Framed) (h : SurfaceInteraction) : Type 0 where
     pub i : ℕ
     pub x : Crossing
     pub frame : Frame
@@ -70,18 +70,18 @@ module _ (c : Curve) (flip : Bool) (k : ℕ) where
     pub none-nearer : (j : ℕ) (l : Leaf) → OpenLeaf c f j l → counts rule.Nearest l ≡ true → lt (distanceOf l) (x .t) ≡ false
     pub earlier-farther : (j : ℕ) (l : Leaf) → OpenLeaf c f j l → j < i → counts rule.Nearest l ≡ true → lt (x .t) (distanceOf l) ≡ true
 
-  abbrev PieceSays : Framed → NearestIntersection → Type 0
-  PieceSays f (Hit h n) = (n ≡ k) × PieceHit f h
-  PieceSays f Miss = (j : ℕ) (l : Leaf) → OpenLeaf c f j l → counts rule.Nearest l ≡ false
-  PieceSays f (Refused number) = Unit {0}
+  abbrev CurveSays : Framed → NearestIntersection → Type 0
+  CurveSays f (Hit h n) = (n ≡ k) × CurveHit f h
+  CurveSays f Miss = (j : ℕ) (l : Leaf) → OpenLeaf c f j l → counts rule.Nearest l ≡ false
+  CurveSays f (Refused number) = Unit {0}
 
-  piece-says : (f : Framed) → PieceSays f (framedAnswer c flip k f)
+  curve-says : (f : Framed) → CurveSays f (framedAnswer c flip k f)
   unfolding framedAnswer leafAnswer recordOf
-  piece-says framed.ZeroWeight = tt
-  piece-says framed.ZeroLength = tt
-  piece-says (framed.Curve ray v cp) = go (leafBy rule.Nearest c v (wholeOf c cp) (depthOf c cp)) (leaf-says c v (wholeOf c cp) (depthOf c cp))
+  curve-says framed.ZeroWeight = tt
+  curve-says framed.ZeroLength = tt
+  curve-says (framed.Curve ray v cp) = go (leafBy rule.Nearest c v (wholeOf c cp) (depthOf c cp)) (leaf-says c v (wholeOf c cp) (depthOf c cp))
     where
-      go : (l : Leaf) → Says c v (wholeOf c cp) (depthOf c cp) l → PieceSays (framed.Curve ray v cp) (leafAnswer c flip k ray l)
+      go : (l : Leaf) → Says c v (wholeOf c cp) (depthOf c cp) l → CurveSays (framed.Curve ray v cp) (leafAnswer c flip k ray l)
       go (NoFrame number t) says = tt
       go Fails says = λ j l o. rw (o .2) at (says j (o .0) (o .1))
       go (Passes x frame) says =
@@ -113,12 +113,12 @@ module _ (list : List Float) (w2o : Matrix4x4) (r : Ray) (flip : Bool) where
   abbrev n : ℕ
   n = length list / floats
 
-  answer-says : (k : ℕ) → PieceSays (curve k) flip k (framedAt list w2o r k) (answer k)
+  answer-says : (k : ℕ) → CurveSays (curve k) flip k (framedAt list w2o r k) (answer k)
   unfolding answerAt answerOf framedCurve firstOf
-  answer-says k = go (isCurve (curveAt list k)) (piece-says (curve k) flip k (withAim (curve k) (aimedOf w2o r)))
+  answer-says k = go (isCurve (curveAt list k)) (curve-says (curve k) flip k (withAim (curve k) (aimedOf w2o r)))
     where
-      go : (b : Bool) → PieceSays (curve k) flip k (withAim (curve k) (aimedOf w2o r)) (framedAnswer (curve k) flip k (withAim (curve k) (aimedOf w2o r)))
-          → PieceSays (curve k) flip k (withAim (curve k) (aimedOf w2o r)) (told Refused (cond (not b) 9 0) (framedAnswer (curve k) flip k (withAim (curve k) (aimedOf w2o r))))
+      go : (b : Bool) → CurveSays (curve k) flip k (withAim (curve k) (aimedOf w2o r)) (framedAnswer (curve k) flip k (withAim (curve k) (aimedOf w2o r)))
+          → CurveSays (curve k) flip k (withAim (curve k) (aimedOf w2o r)) (told Refused (cond (not b) 9 0) (framedAnswer (curve k) flip k (withAim (curve k) (aimedOf w2o r))))
       go true says = says
       go false says = tt
 
@@ -128,7 +128,7 @@ module _ (list : List Float) (w2o : Matrix4x4) (r : Ray) (flip : Bool) where
   hit-number : (k : ℕ) → isHit (answer k) ≡ true → isNan (distanceIn (answer k)) ≡ false
   hit-number k = go (answer k) (answer-says k)
     where
-      go : (a : NearestIntersection) → PieceSays (curve k) flip k (framedAt list w2o r k) a → isHit a ≡ true → isNan (distanceIn a) ≡ false
+      go : (a : NearestIntersection) → CurveSays (curve k) flip k (framedAt list w2o r k) a → isHit a ≡ true → isNan (distanceIn a) ≡ false
       go (Hit h m) says e = rw (says .1 .distance-is) (says .1 .is-number)
       go Miss says e = absurd (false≢true e)
       go (Refused number) says e = absurd (false≢true e)
@@ -143,41 +143,41 @@ module _ (list : List Float) (w2o : Matrix4x4) (r : Ray) (flip : Bool) where
     counted-hit : (k j : ℕ) (l : Leaf) → k < n → OpenLeaf (curve k) (framedAt list w2o r k) j l → counts rule.Nearest l ≡ true → (isHit (answer k) ≡ true) × (lt (distanceOf l) (distanceIn (answer k)) ≡ false)
     counted-hit k j l less o e = go (answer k) (answer-says k) (passed k less)
       where
-        go : (a : NearestIntersection) → PieceSays (curve k) flip k (framedAt list w2o r k) a → isRefused a ≡ false → (isHit a ≡ true) × (lt (distanceOf l) (distanceIn a) ≡ false)
+        go : (a : NearestIntersection) → CurveSays (curve k) flip k (framedAt list w2o r k) a → isRefused a ≡ false → (isHit a ≡ true) × (lt (distanceOf l) (distanceIn a) ≡ false)
         go (Hit h m) says p = (refl, rw (says .1 .distance-is) (says .1 .none-nearer j l o e))
         go Miss says p = absurd (true≢false (sym e ∙ says j l o))
         go (Refused number) says p = absurd (true≢false p)
 
-    module _ (k : ℕ) (h : SurfaceInteraction) (is-hit : answer k ≡ Hit h k) (chosen : IsBest nearer (λ k. isHit (answer k)) n (some k)) (piece : PieceHit (curve k) flip k (framedAt list w2o r k) h) where
-      at-distance : distanceIn (answer k) ≡ piece .x .t
-      at-distance = ap distanceIn is-hit ∙ piece .distance-is
+    module _ (k : ℕ) (h : SurfaceInteraction) (is-hit : answer k ≡ Hit h k) (chosen : IsBest nearer (λ k. isHit (answer k)) n (some k)) (hit : CurveHit (curve k) flip k (framedAt list w2o r k) h) where
+      at-distance : distanceIn (answer k) ≡ hit .x .t
+      at-distance = ap distanceIn is-hit ∙ hit .distance-is
 
       -- a curve that is hit lies no nearer, and one before it farther
       no-nearer : (k′ : ℕ) → k′ < n → isHit (answer k′) ≡ true → nearer k′ k ≡ false
       no-nearer k′ less e = ⊎-elim (λ same. rw same (lt-itself _)) (⊎-elim (λ before. lt-asym _ _ (chosen .2 k′ before e)) (λ behind. chosen .3 k′ behind less e)) (cases k′ k)
 
-      none-nearer : (k′ i′ : ℕ) (l : Leaf) → LeafIn list w2o r k′ i′ l → passes l ≡ true → lt (distanceOf l) (piece .x .t) ≡ false
+      none-nearer : (k′ i′ : ℕ) (l : Leaf) → LeafIn list w2o r k′ i′ l → passes l ≡ true → lt (distanceOf l) (hit .x .t) ≡ false
       none-nearer k′ i′ l at p = ⊎-elim counts-so (uncounted-not-below l _ p) (counted? l)
         where
-          counts-so : counts rule.Nearest l ≡ true → lt (distanceOf l) (piece .x .t) ≡ false
+          counts-so : counts rule.Nearest l ≡ true → lt (distanceOf l) (hit .x .t) ≡ false
           counts-so e =
               let there = counted-hit k′ i′ l (at .0) (at .1) e in
               rw (← at-distance) (not-lt-trans (distanceOf l) (distanceIn (answer k′)) (distanceIn (answer k)) (hit-number k′ (there .0)) (there .1) (no-nearer k′ (at .0) (there .0)))
 
-      earlier-farther : (k′ i′ : ℕ) (l : Leaf) → LeafIn list w2o r k′ i′ l → Before k′ i′ k (piece .i) → counts rule.Nearest l ≡ true → lt (piece .x .t) (distanceOf l) ≡ true
+      earlier-farther : (k′ i′ : ℕ) (l : Leaf) → LeafIn list w2o r k′ i′ l → Before k′ i′ k (hit .i) → counts rule.Nearest l ≡ true → lt (hit .x .t) (distanceOf l) ≡ true
       earlier-farther k′ i′ l at (inl before) e =
           let there = counted-hit k′ i′ l (at .0) (at .1) e in
           rw (← at-distance) (farther (distanceIn (answer k)) (distanceOf l) (distanceIn (answer k′)) (counts-number l e) (chosen .2 k′ before (there .0)) (there .1))
-      earlier-farther k′ i′ l at (inr (same, before)) e = piece .earlier-farther i′ l (subst (λ m. OpenLeaf (curve m) (framedAt list w2o r m) i′ l) same (at .1)) before e
+      earlier-farther k′ i′ l at (inr (same, before)) e = hit .earlier-farther i′ l (subst (λ m. OpenLeaf (curve m) (framedAt list w2o r m) i′ l) same (at .1)) before e
 
       nearest-is : NearestIs list w2o r flip h k
       nearest-is = record {
-        i = piece .i;
-        x = piece .x;
-        frame = piece .frame;
-        leaf = (chosen .0, piece .leaf);
-        record-is = piece .record-is;
-        is-number = piece .is-number;
+        i = hit .i;
+        x = hit .x;
+        frame = hit .frame;
+        leaf = (chosen .0, hit .leaf);
+        record-is = hit .record-is;
+        is-number = hit .is-number;
         none-nearer = none-nearer;
         earlier-farther = earlier-farther;
       }
@@ -197,7 +197,7 @@ module _ (list : List Float) (w2o : Matrix4x4) (r : Ray) (flip : Bool) where
       refusing Miss e = absurd (false≢true e)
       refusing (Refused number) e = tt
 
-      hitting : (k : ℕ) → ((k : ℕ) → k < n → isRefused (answer k) ≡ false) → IsBest nearer (λ k. isHit (answer k)) n (some k) → (a : NearestIntersection) → answer k ≡ a → PieceSays (curve k) flip k (framedAt list w2o r k) a → isHit a ≡ true → ListSays a
+      hitting : (k : ℕ) → ((k : ℕ) → k < n → isRefused (answer k) ≡ false) → IsBest nearer (λ k. isHit (answer k)) n (some k) → (a : NearestIntersection) → answer k ≡ a → CurveSays (curve k) flip k (framedAt list w2o r k) a → isHit a ≡ true → ListSays a
       hitting k passed chosen (Hit h m) is says e = subst (λ m. NearestIs list w2o r flip h m) (sym (says .0)) (nearest-is passed k h (is ∙ ap (Hit h) (says .0)) chosen (says .1))
       hitting k passed chosen Miss is says e = absurd (false≢true e)
       hitting k passed chosen (Refused number) is says e = absurd (false≢true e)

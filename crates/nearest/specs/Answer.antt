@@ -18,7 +18,7 @@ nearestRecord Miss = none
 nearestRecord (Refused number) = none
 
 -- a hit's curve, by its number in the list
-abbrev pub nearestPiece : NearestIntersection → Option ℕ
-nearestPiece (Hit h k) = some k
-nearestPiece Miss = none
-nearestPiece (Refused number) = none
+abbrev pub nearestCurve : NearestIntersection → Option ℕ
+nearestCurve (Hit h k) = some k
+nearestCurve Miss = none
+nearestCurve (Refused number) = none

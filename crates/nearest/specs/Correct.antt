@@ -92,12 +92,12 @@ leafRefusals c framed.ZeroWeight = []
 leafRefusals c framed.ZeroLength = []
 
 -- 9, then 12 and 13 as the Rust meets them, then those of its leaves
-unfoldable pub pieceRefusals : Matrix4x4 → Ray → List Float → Table
-pieceRefusals w2o r l = let f = framedCurve (curveFrom l) w2o r in (not (isCurve l), 9) ∷ framingRefusals f ++ leafRefusals (curveFrom l) f
+unfoldable pub aloneRefusals : Matrix4x4 → Ray → List Float → Table
+aloneRefusals w2o r l = let f = framedCurve (curveFrom l) w2o r in (not (isCurve l), 9) ∷ framingRefusals f ++ leafRefusals (curveFrom l) f
 
--- 19, 10, 11, then piece by piece
+-- 19, 10, 11, then curve by curve
 unfoldable pub refusals : List Float → Matrix4x4 → Matrix4x4 → Ray → Table
-refusals list o2w w2o r = nearestRefusals list o2w w2o r ++ upTo (λ k. pieceRefusals w2o r (curveAt list k)) (length list / floats)
+refusals list o2w w2o r = nearestRefusals list o2w w2o r ++ upTo (λ k. aloneRefusals w2o r (curveAt list k)) (length list / floats)
 
 -- ---- the call
 

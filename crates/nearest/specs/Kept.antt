@@ -9,8 +9,8 @@ use Rattle.leaf.specs.Found.{distanceFrom, crossingFrom, frameFrom}
 use Rattle.leaf.specs.Record.{recordOf}
 use Rattle.nearest.specs.declared.NearestIntersection.{NearestIntersection}
 use Rattle.nearest.specs.declared.NearestIntersection.the-variants.{Hit, Miss, Refused}
-use Rattle.nearest.specs.declared.pieces.Kept.{Kept}
-use Rattle.nearest.specs.declared.pieces.Kept.the-variants as kept
+use Rattle.nearest.specs.declared.list.Kept.{Kept}
+use Rattle.nearest.specs.declared.list.Kept.the-variants as kept
 
 -- what is kept, with the floats of the crossing, as an answer
 unfoldable pub keptAnswer : List Float → Ray → Bool → Kept → List Float → NearestIntersection

@@ -3,10 +3,10 @@
 ghost use mathlib.Core.Path.{_≡_};
 ghost use Rattle.nearest.specs.Nearest.{nearestWithin, nearestAimed, nearestOf};
 
-mod pieces;
+mod list;
 
-use crate::pieces::nearest_along;
-use crate::pieces::refuse_first;
+use crate::list::nearest_along;
+use crate::list::refuse_first;
 use curve::FLOATS;
 use frame::Aimed;
 use frame::aim_ray;

@@ -1,7 +1,7 @@
--- `nearest::pieces::nearest_along` meets its contract: each return rewrites by the facts on its way. Assumes nothing.
+-- `nearest::list::nearest_along` meets its contract: each return rewrites by the facts on its way. Assumes nothing.
 use mathlib.Core.Path.{_∙_}
-use Rattle.nearest.proofs.pieces.nearest_along.Statement.{statement}
-use Rattle.nearest.proofs.pieces.nearest_along.Tie as tie
+use Rattle.nearest.proofs.list.nearest_along.Statement.{statement}
+use Rattle.nearest.proofs.list.nearest_along.Tie as tie
 
 returns : tie.Need-returns
 returns c = c .finish .ensures ∙ c .before .before .keep-nearest .ensures .0 _

@@ -7,7 +7,7 @@ ghost use Rattle.curve.specs.Layout.{floats, curveFrom};
 ghost use Rattle.frame.specs.declared.frame.Aimed.the-variants as aimed;
 ghost use Rattle.walk.specs.Walk.{lastIn};
 ghost use Rattle.nearest.specs.Nearest.{joined, leafAnswer, answerOf, answerAt, nearestAimed};
-ghost use Rattle.nearest.specs.declared.pieces.Kept.the-variants as kept;
+ghost use Rattle.nearest.specs.declared.list.Kept.the-variants as kept;
 ghost use Rattle.nearest.specs.Kept.{isNearer, keptAnswer, keptRefused, KeptBelow};
 use crate::NearestIntersection;
 use curve::FLOATS;
@@ -31,7 +31,7 @@ enum Kept {
 }
 
 // What a curve alone comes to: 9, or what the walk tells.
-fn walk_piece(curve: &[f32], a: Aim, found: &mut [f32; FOUND]) -> u8
+fn walk_curve(curve: &[f32], a: Aim, found: &mut [f32; FOUND]) -> u8
     ensures { λ r. ⌜ ((flip : Bool) (k : ℕ) → leafAnswer (curveFrom (now (curve .entry))) flip k (a .ray) (lastIn r (now (found .exit))) ≡ answerOf flip (aimed.Ray a) k (now (curve .entry))) ⌝ }
 {
     if is_curve(curve) {
@@ -54,14 +54,14 @@ fn is_nearer(t: f32, kept: Kept, best: &[f32; FOUND]) -> bool
 }
 
 // What the curve k makes of what is kept.
-fn keep_piece(list: &[f32], k: usize, a: Aim, best: &mut [f32; FOUND], kept: Kept) -> Kept
+fn keep_curve(list: &[f32], k: usize, a: Aim, best: &mut [f32; FOUND], kept: Kept) -> Kept
     requires { ⌜ (k < length (now list) / floats) × (keptRefused kept ≡ false) ⌝ }
     ensures { λ r. ⌜ ((flip : Bool) → keptAnswer (now (list .entry)) (a .ray) flip r (now (best .exit)) ≡ joined (keptAnswer (now (list .entry)) (a .ray) flip kept (now (best .entry))) (answerAt flip (aimed.Ray a) (now (list .entry)) k)) ⌝ }
     ensures { λ r. ⌜ (KeptBelow k kept → KeptBelow (suc k) r) ⌝ }
 {
     let from = k * FLOATS;
     let mut found = [0.0f32; FOUND];
-    let w = walk_piece(&list[from..from + FLOATS], a, &mut found);
+    let w = walk_curve(&list[from..from + FLOATS], a, &mut found);
     if w == HIT {
         if is_nearer(distance_in(&found), kept, best) {
             *best = found;
@@ -95,14 +95,14 @@ fn keep_nearest(list: &[f32], a: Aim, best: &mut [f32; FOUND]) -> Kept
     let mut kept = Kept::Miss;
     let mut k = 0usize;
     while (k < n) & !is_refused(kept) {
-        kept = keep_piece(list, k, a, best, kept);
+        kept = keep_curve(list, k, a, best, kept);
         k += 1;
     }
     kept
 }
 
 // The hit on the curve k.
-fn hit_piece(list: &[f32], k: usize, flip: bool, a: Aim, best: &[f32; FOUND]) -> NearestIntersection
+fn hit_curve(list: &[f32], k: usize, flip: bool, a: Aim, best: &[f32; FOUND]) -> NearestIntersection
     requires { ⌜ k < length (now list) / floats ⌝ }
     ensures { λ r. ⌜ r ≡ keptAnswer (now (list .entry)) (a .ray) flip (kept.Hit k) (now (best .entry)) ⌝ }
 {
@@ -117,7 +117,7 @@ fn finish(list: &[f32], flip: bool, a: Aim, best: &[f32; FOUND], kept: Kept) -> 
     ensures { λ r. ⌜ r ≡ keptAnswer (now (list .entry)) (a .ray) flip kept (now (best .entry)) ⌝ }
 {
     match kept {
-        Kept::Hit(k) => hit_piece(list, k, flip, a, best),
+        Kept::Hit(k) => hit_curve(list, k, flip, a, best),
         Kept::Miss => NearestIntersection::Miss,
         Kept::Refused(number) => NearestIntersection::Refused(number),
     }

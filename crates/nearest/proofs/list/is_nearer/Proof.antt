@@ -1,8 +1,8 @@
--- `nearest::pieces::is_nearer` meets its contract: each return rewrites by the facts on its way. Assumes nothing.
+-- `nearest::list::is_nearer` meets its contract: each return rewrites by the facts on its way. Assumes nothing.
 use borrow.Author.Needs.{needs}
 use Rattle.nearest.specs.Kept.{isNearer}
-use Rattle.nearest.proofs.pieces.is_nearer.Statement.{statement}
-use Rattle.nearest.proofs.pieces.is_nearer.Tie as tie
+use Rattle.nearest.proofs.list.is_nearer.Statement.{statement}
+use Rattle.nearest.proofs.list.is_nearer.Tie as tie
 
 returns : tie.Need-returns
 unfolding isNearer

@@ -1,7 +1,7 @@
--- `nearest::pieces::is_refused` meets its contract: each return rewrites by the facts on its way. Assumes nothing.
+-- `nearest::list::is_refused` meets its contract: each return rewrites by the facts on its way. Assumes nothing.
 use borrow.Author.Needs.{needs}
-use Rattle.nearest.proofs.pieces.is_refused.Statement.{statement}
-use Rattle.nearest.proofs.pieces.is_refused.Tie as tie
+use Rattle.nearest.proofs.list.is_refused.Statement.{statement}
+use Rattle.nearest.proofs.list.is_refused.Tie as tie
 
 returns : tie.Need-returns
 returns c = rw (c .enum-told .given .1)

@@ -1,8 +1,8 @@
--- `nearest::pieces::refuse_first` meets its contract. Assumes nothing.
+-- `nearest::list::refuse_first` meets its contract. Assumes nothing.
 use borrow.Author.Needs.{needs}
 use Rattle.nearest.proofs.Keeping.{first-none, first-weightless, first-wrong}
-use Rattle.nearest.proofs.pieces.refuse_first.Statement.{statement}
-use Rattle.nearest.proofs.pieces.refuse_first.Tie as tie
+use Rattle.nearest.proofs.list.refuse_first.Statement.{statement}
+use Rattle.nearest.proofs.list.refuse_first.Tie as tie
 
 returns : tie.Need-returns
 returns c flip = first-none _ flip (c .if1 .taken)
