@@ -2,12 +2,13 @@
 // curve_intersect and curve_nearest 1 for a miss, and writes its values through the pointers it is given. A refusal
 // leaves what they point to, but for the line that curve_sheet writes with every reply.
 mod floats;
+mod lists;
 mod rays;
 mod shapes;
 mod sheets;
 
+pub use lists::curve_nearest;
 pub use rays::curve_intersect;
-pub use rays::curve_nearest;
 pub use shapes::curve_area;
 pub use shapes::curve_create;
 pub use shapes::curve_object_bound;

@@ -1,8 +1,7 @@
-// Where a ray meets a curve, and where it first meets a list of them.
+// Where a ray meets a curve.
 ghost use mathlib.Core.Path.{_≡_};
 ghost use Rattle.intersect.specs.Answer.{metNumber};
-ghost use Rattle.nearest.specs.Answer.{nearestNumber};
-ghost use Rattle.curve_c.specs.Calls.{metBy, recordAfter, lookedAfter, nearestBy, nearestAfter, pieceAfter};
+ghost use Rattle.curve_c.specs.Calls.{metBy, recordAfter, lookedAfter};
 use geometry::RAY_FLOATS;
 use geometry::ray_from;
 use interaction::RECORD_FLOATS;
@@ -10,7 +9,6 @@ use interaction::record_floats;
 use intersect::Intersection;
 use matrix::MATRIX_FLOATS;
 use matrix::matrix_from;
-use nearest::NearestIntersection;
 
 // Answers 0 with a hit and 1 with a miss, or its refusal.
 fn put_met(met: Intersection, record: &mut [f32; RECORD_FLOATS], looked: &mut u32) -> u32
@@ -54,49 +52,4 @@ pub extern "C" fn curve_intersect(
         ray_from(ray, 0),
     );
     put_met(met, record, looked)
-}
-
-// Answers 0 with a hit and 1 with a miss, or its refusal.
-fn put_nearest(
-    met: NearestIntersection,
-    record: &mut [f32; RECORD_FLOATS],
-    piece: &mut usize,
-) -> u32
-    ensures { λ r. ⌜ r ≡ nearestNumber met ⌝ }
-    ensures { λ _. ⌜ now («record» .exit) ≡ nearestAfter met (now («record» .entry)) ⌝ }
-    ensures { λ _. ⌜ now (piece .exit) ≡ pieceAfter met (now (piece .entry)) ⌝ }
-{
-    match met {
-        NearestIntersection::Hit(h, k) => {
-            *record = record_floats(h);
-            *piece = k;
-            0
-        }
-        NearestIntersection::Miss => 1,
-        NearestIntersection::Refused(number) => number as u32,
-    }
-}
-
-#[no_mangle]
-pub extern "C" fn curve_nearest(
-    list: &[f32],
-    object_to_world: &[f32; MATRIX_FLOATS],
-    world_to_object: &[f32; MATRIX_FLOATS],
-    reverse: u32,
-    ray: &[f32; RAY_FLOATS],
-    record: &mut [f32; RECORD_FLOATS],
-    piece: &mut usize,
-) -> u32
-    ensures { λ r. ⌜ r ≡ nearestNumber (nearestBy (now (list .entry)) (now («object_to_world» .entry)) (now («world_to_object» .entry)) reverse (now (ray .entry))) ⌝ }
-    ensures { λ _. ⌜ now («record» .exit) ≡ nearestAfter (nearestBy (now (list .entry)) (now («object_to_world» .entry)) (now («world_to_object» .entry)) reverse (now (ray .entry))) (now («record» .entry)) ⌝ }
-    ensures { λ _. ⌜ now (piece .exit) ≡ pieceAfter (nearestBy (now (list .entry)) (now («object_to_world» .entry)) (now («world_to_object» .entry)) reverse (now (ray .entry))) (now (piece .entry)) ⌝ }
-{
-    let met = nearest::nearest(
-        list,
-        matrix_from(object_to_world, 0),
-        matrix_from(world_to_object, 0),
-        0 < reverse,
-        ray_from(ray, 0),
-    );
-    put_nearest(met, record, piece)
 }

@@ -1,12 +1,12 @@
--- `curve_c::rays::put_nearest` meets its contract. Assumes nothing.
+-- `curve_c::lists::put_nearest` meets its contract. Assumes nothing.
 use mathlib.Core.Path.{sym, ap, _∙_}
 use borrow.Author.Needs.{needs}
 use denote.Ref.{now}
 use Rattle.nearest.specs.declared.NearestIntersection.{NearestIntersection}
 use Rattle.nearest.specs.Answer.{nearestNumber}
 use Rattle.curve_c.specs.Calls.{nearestAfter, pieceAfter}
-use Rattle.curve_c.proofs.rays.put_nearest.Statement.{statement}
-use Rattle.curve_c.proofs.rays.put_nearest.Tie as tie
+use Rattle.curve_c.proofs.lists.put_nearest.Statement.{statement}
+use Rattle.curve_c.proofs.lists.put_nearest.Tie as tie
 
 returns : tie.Need-returns
 returns c =

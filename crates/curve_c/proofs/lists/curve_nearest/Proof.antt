@@ -1,12 +1,12 @@
--- `curve_c::rays::curve_nearest` meets its contract. Assumes nothing.
+-- `curve_c::lists::curve_nearest` meets its contract. Assumes nothing.
 use mathlib.Core.Path.{_≡_, ap, _∙_}
 use borrow.Author.Needs.{needs}
 use denote.Ref.{now}
 use Rattle.nearest.specs.declared.NearestIntersection.{NearestIntersection}
 use Rattle.nearest.specs.Answer.{nearestNumber}
 use Rattle.curve_c.specs.Calls.{nearestBy, nearestAfter, pieceAfter}
-use Rattle.curve_c.proofs.rays.curve_nearest.Statement.{statement}
-use Rattle.curve_c.proofs.rays.curve_nearest.Tie as tie
+use Rattle.curve_c.proofs.lists.curve_nearest.Statement.{statement}
+use Rattle.curve_c.proofs.lists.curve_nearest.Tie as tie
 
 returns : tie.Need-returns
 unfolding nearestBy
