@@ -1,3 +1,4 @@
+pub mod Associative
 pub mod Bound
 pub mod Compare
 pub mod Constants

@@ -59,6 +59,21 @@ module _ (x y z a b c : ℕ) (A : 0 < a) (B : 0 < b) (C : 0 < c) where
 
 -- ----
 
+-- what is in order is a number
+pub number-before : (x y : Float) → lt x y ≡ true → isNan x ≡ false
+unfolding lt isNan
+number-before nan y h = absurd (false≢true h)
+number-before (inf s) y h = refl
+number-before (fin s m e) y h = refl
+
+pub number-behind : (x y : Float) → lt y x ≡ true → isNan x ≡ false
+unfolding lt isNan
+number-behind nan nan h = absurd (false≢true h)
+number-behind nan (inf s) h = absurd (false≢true h)
+number-behind nan (fin s m e) h = absurd (false≢true h)
+number-behind (inf s) y h = refl
+number-behind (fin s m e) y h = refl
+
 pub lt-trans : (x y z : Float) → lt x y ≡ true → lt y z ≡ true → lt x z ≡ true
 unfolding lt
 lt-trans nan y z h k = absurd (false≢true h)
