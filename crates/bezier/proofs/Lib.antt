@@ -1,2 +1,3 @@
 pub mod Numbers
+mod Passes
 pub mod Transposed

@@ -1,40 +1,45 @@
 -- Numbers and NaNs in `min` and `max`. Assumes nothing.
 use mathlib.Core.Path.{_≡_, refl, sym, subst, _∙_}
-use mathlib.Core.Bool.{Bool, true, false, _||_, cond, false≢true}
-use lib.Ieee.{Float, nan, inf, fin, lt, ne, isNan}
+use mathlib.Core.Bool.{Bool, true, false, _||_, cond, true≢false, false≢true}
+use lib.Ieee.{Float, lt, ne, isNan}
 use Rattle.float.specs.Basic.{maxOf, minOf}
 use Rattle.float.proofs.Compare.{itself}
+use Rattle.float.proofs.Order.{number-before, number-behind}
+use Rattle.bezier.specs.declared.corners.Corners.{Corners}
+use Rattle.bezier.specs.declared.extent.Extent.{Extent}
+use Rattle.bezier.specs.declared.points.PaddedPoint.{PaddedPoint}
+use Rattle.bezier.specs.Corners.{AllNumbers, cornersWith}
+use Rattle.bezier.specs.Extent.{extentWith, Numbers}
 
--- past the test for a NaN both are numbers
-pub both-numbers : (a b : Float) → ne a a || ne b b ≡ false → (isNan a ≡ false) × (isNan b ≡ false)
-both-numbers a b e = go (ne a a) (ne b b) e (itself a) (itself b)
+-- past the test for a NaN all are numbers
+pub all-numbers : (a b c d : Float) → ne a a || ne b b || ne c c || ne d d ≡ false → (isNan a ≡ false) × (isNan b ≡ false) × (isNan c ≡ false) × (isNan d ≡ false)
+all-numbers a b c d e = go (ne a a) (ne b b) (ne c c) (ne d d) e (itself a) (itself b) (itself c) (itself d)
   where
-    go : (p q : Bool) → p || q ≡ false → isNan a ≡ p → isNan b ≡ q → (isNan a ≡ false) × (isNan b ≡ false)
-    go true q e h k = absurd (false≢true (sym e))
-    go false q e h k = (h, k ∙ e)
+    go : (p q r s : Bool) → p || q || r || s ≡ false → isNan a ≡ p → isNan b ≡ q → isNan c ≡ r → isNan d ≡ s → (isNan a ≡ false) × (isNan b ≡ false) × (isNan c ≡ false) × (isNan d ≡ false)
+    go true q r s e A B C D = absurd (true≢false e)
+    go false true r s e A B C D = absurd (true≢false e)
+    go false false true s e A B C D = absurd (true≢false e)
+    go false false false s e A B C D = (A, B, C, D ∙ e)
 
 -- what is picked is a number, if b is one where the test says so
 picks : (a b : Float) (t : Bool) → isNan a ≡ false → (t ≡ true → isNan b ≡ false) → isNan (cond (isNan a || t) b a) ≡ false
 picks a b true h k = subst (λ (n : Bool). isNan (cond (n || true) b a) ≡ false) (sym h) (k refl)
 picks a b false h k = subst (λ (n : Bool). isNan (cond (n || false) b a) ≡ false) (sym h) h
 
-below : (a b : Float) → lt b a ≡ true → isNan b ≡ false
-below a nan h = absurd (false≢true (unfold lt in h))
-below a (inf s) h = unfold isNan in refl
-below a (fin s m e) h = unfold isNan in refl
-
-above : (a b : Float) → lt a b ≡ true → isNan b ≡ false
-above nan nan h = absurd (false≢true (unfold lt in h))
-above (inf s) nan h = absurd (false≢true (unfold lt in h))
-above (fin s m e) nan h = absurd (false≢true (unfold lt in h))
-above a (inf s) h = unfold isNan in refl
-above a (fin s m e) h = unfold isNan in refl
-
 -- of a number and anything, `min` and `max` give a number
 pub min-number : (a b : Float) → isNan a ≡ false → isNan (minOf a b) ≡ false
 unfolding minOf
-min-number a b h = picks a b (lt b a) h (below a b)
+min-number a b h = picks a b (lt b a) h (number-before b a)
 
 pub max-number : (a b : Float) → isNan a ≡ false → isNan (maxOf a b) ≡ false
 unfolding maxOf
-max-number a b h = picks a b (lt a b) h (above a b)
+max-number a b h = picks a b (lt a b) h (number-behind b a)
+
+pub numbers-with : (e : Extent) (v : Float) → Numbers e → Numbers (extentWith e v)
+unfolding extentWith
+numbers-with e v n = (min-number (e .least) v (n .0), max-number (e .greatest) v (n .1))
+
+pub all-numbers-with : (c : Corners) (p : PaddedPoint) → AllNumbers c → AllNumbers (cornersWith c p)
+unfolding cornersWith
+all-numbers-with c p n =
+    (numbers-with (c .x) (p .x) (n .0), numbers-with (c .y) (p .y) (n .1), numbers-with (c .z) (p .z) (n .2), numbers-with (c .fourth) (p .fourth) (n .3))

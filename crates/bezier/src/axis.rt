@@ -1,10 +1,7 @@
 // One coordinate of a curve's control points. Each goes through the arithmetic on its own: no coordinate asks for another,
 // and four of them side by side (`points`) become one instruction.
 ghost use mathlib.Core.Path.{_≡_};
-ghost use lib.Ieee.{isNan};
-ghost use mathlib.Core.Bool.{false};
-ghost use Rattle.float.specs.Basic.{maxOf, minOf};
-ghost use Rattle.bezier.specs.Axis.{blossomAt, between, averageAt2, averageAt3, averageAt4, lowAt, highAt, evalAt, leastIn, greatestIn};
+ghost use Rattle.bezier.specs.Axis.{blossomAt, between, averageAt2, averageAt3, averageAt4, lowAt, highAt, evalAt};
 use geometry::lerp;
 
 pub struct Axis {
@@ -99,41 +96,5 @@ pub fn eval_at(p: Axis, u: f32) -> Step
         p: lerp(u, b0, b1),
         d: b1 - b0,
         chord: p.p3 - p.p0,
-    }
-}
-
-// `min` and `max` where the first is known to be a number: one comparison.
-fn min_of_number(a: f32, b: f32) -> f32
-    requires { ⌜ isNan a ≡ false ⌝ }
-    ensures { λ r. ⌜ r ≡ minOf a b ⌝ }
-{
-    if b < a { b } else { a }
-}
-
-pub fn max_of_number(a: f32, b: f32) -> f32
-    requires { ⌜ isNan a ≡ false ⌝ }
-    ensures { λ r. ⌜ r ≡ maxOf a b ⌝ }
-{
-    if a < b { b } else { a }
-}
-
-// Where the first of each pair is a number, so is the pair's result, and no other NaN matters.
-pub fn least(a: Axis) -> f32
-    ensures { λ r. ⌜ r ≡ leastIn a ⌝ }
-{
-    if (a.p0 != a.p0) | (a.p2 != a.p2) {
-        float::min(float::min(a.p0, a.p1), float::min(a.p2, a.p3))
-    } else {
-        min_of_number(min_of_number(a.p0, a.p1), min_of_number(a.p2, a.p3))
-    }
-}
-
-pub fn greatest(a: Axis) -> f32
-    ensures { λ r. ⌜ r ≡ greatestIn a ⌝ }
-{
-    if (a.p0 != a.p0) | (a.p2 != a.p2) {
-        float::max(float::max(a.p0, a.p1), float::max(a.p2, a.p3))
-    } else {
-        max_of_number(max_of_number(a.p0, a.p1), max_of_number(a.p2, a.p3))
     }
 }

@@ -2,9 +2,9 @@
 // arithmetic with the others, so that a point is one load, one instruction and one store; points of three floats would be
 // taken apart and put together at every step. Nothing else knows the places.
 ghost use mathlib.Core.Path.{_≡_};
-ghost use Prim.Native.Nat.{_≤_};
+ghost use Prim.Native.Nat.{_+_, _≤_};
 ghost use Rattle.bezier.specs.Cubic.{lowOf, highOf, evalOf};
-ghost use Rattle.bezier.specs.Points.{axisIn, cubicIn, evalIn};
+ghost use Rattle.bezier.specs.Points.{axisIn, cubicIn, evalIn, paddedIn};
 ghost use Rattle.bezier.specs.Polygon.{cubicOf};
 use crate::axis::Axis;
 use crate::axis::eval_at;
@@ -17,13 +17,34 @@ use geometry::vector_from;
 
 pub const POINTS: usize = 16;
 
-const P0: usize = 0;
+pub const P0: usize = 0;
 
-const P1: usize = 4;
+pub const P1: usize = 4;
 
-const P2: usize = 8;
+pub const P2: usize = 8;
 
-const P3: usize = 12;
+pub const P3: usize = 12;
+
+// One of the points, with its fourth float.
+pub struct PaddedPoint {
+    pub x: f32,
+    pub y: f32,
+    pub z: f32,
+    pub fourth: f32,
+}
+
+// The point whose floats start at a place.
+pub fn padded_in(p: &[f32; POINTS], at: usize) -> PaddedPoint
+    requires { ⌜ at + 4 ≤ 16 ⌝ }
+    ensures { λ r. ⌜ r ≡ paddedIn (now (p .entry)) at ⌝ }
+{
+    PaddedPoint {
+        x: p[at],
+        y: p[at + 1],
+        z: p[at + 2],
+        fourth: p[at + 3],
+    }
+}
 
 // The points of three coordinates. The fourth may be anything.
 pub fn points_by(x: Axis, y: Axis, z: Axis, fourth: Axis) -> [f32; POINTS]

@@ -1,8 +1,7 @@
 // Boxes: core/geometry/bounds.rs.
 ghost use mathlib.Core.Path.{_≡_};
-ghost use Rattle.geometry.specs.Bounds.{boundsAt, withPoint, expanded};
+ghost use Rattle.geometry.specs.Bounds.{boundsAt, withPoint};
 use crate::point::Point3f;
-use crate::vector::Vector3f;
 
 pub struct Bounds3f {
     pub p_min: Point3f,
@@ -22,20 +21,6 @@ impl Bounds3f {
         Bounds3f {
             p_min: self.p_min.min(p),
             p_max: self.p_max.max(p),
-        }
-    }
-
-    pub fn expand(self, delta: f32) -> Bounds3f
-        ensures { λ r. ⌜ r ≡ expanded self delta ⌝ }
-    {
-        let v = Vector3f {
-            x: delta,
-            y: delta,
-            z: delta,
-        };
-        Bounds3f {
-            p_min: self.p_min.sub_vector(v),
-            p_max: self.p_max.add_vector(v),
         }
     }
 }

@@ -2,7 +2,7 @@
 ghost use mathlib.Core.Path.{_≡_};
 ghost use Prim.Native.Nat.{_+_, _≤_};
 ghost use lib.ListN.{length};
-ghost use Rattle.geometry.specs.Point.{pointFrom, difference2, plus, moved, movedBack, difference, pointScaled, pointDivided, leastOf, greatestOf, pointLerp};
+ghost use Rattle.geometry.specs.Point.{pointFrom, difference2, plus, moved, difference, pointScaled, pointDivided, leastOf, greatestOf, pointLerp};
 use crate::pbrt::lerp;
 use crate::vector::Vector2f;
 use crate::vector::Vector3f;
@@ -68,16 +68,6 @@ impl Point3f {
             x: self.x + v.x,
             y: self.y + v.y,
             z: self.z + v.z,
-        }
-    }
-
-    pub fn sub_vector(self, v: Vector3f) -> Point3f
-        ensures { λ r. ⌜ r ≡ movedBack self v ⌝ }
-    {
-        Point3f {
-            x: self.x - v.x,
-            y: self.y - v.y,
-            z: self.z - v.z,
         }
     }
 

@@ -1,4 +1,5 @@
 -- Boxes: object_bound and world_bound (01: the hall box). Definitions only.
+use Prim.Native.Nat.{ℕ}
 use mathlib.Core.Bool.{not}
 use mathlib.Core.List.{List, [], _∷_}
 use lib.Ieee.{Float}
@@ -6,6 +7,7 @@ use Rattle.float.specs.Arith.{_⊗_, half}
 use Rattle.float.specs.Basic.{maxOf}
 use Rattle.geometry.specs.declared.bounds.Bounds3f.{Bounds3f}
 use Rattle.geometry.specs.Bounds.{boundsOf, union, expanded}
+use Rattle.geometry.specs.Point.{pointFrom}
 use Rattle.matrix.specs.declared.Matrix4x4.{Matrix4x4}
 use Rattle.transform.specs.Bounds.{transformBounds}
 use Rattle.transform.specs.declared.bounds.TransformedBounds.{TransformedBounds}
@@ -25,7 +27,17 @@ use Rattle.measure.specs.declared.bound.Bound.the-variants.{Bounds, Refu
 unfoldable pub boxOf : Cubic → Bounds3f
 boxOf p = union (boundsOf (p .p0) (p .p1)) (boundsOf (p .p2) (p .p3))
 
--- that, widened by half a width
+-- a box as floats that are lent: where the lower corner starts, and the upper
+abbrev pub lowerAt : ℕ
+lowerAt = 0
+
+abbrev pub upperAt : ℕ
+upperAt = 4
+
+unfoldable pub boundsIn : List Float → Bounds3f
+boundsIn l = record { «p_min» = pointFrom l lowerAt; «p_max» = pointFrom l upperAt }
+
+-- that of four points, widened by half a width
 unfoldable pub widened : Cubic → Float → Bounds3f
 widened p width = expanded (boxOf p) (width ⊗ half)
 

@@ -4,18 +4,16 @@ ghost use Prim.Native.Nat.{_≤_};
 ghost use lib.ListN.{length};
 ghost use Rattle.bezier.specs.Points.{cubicIn};
 ghost use Rattle.curve.specs.Layout.{floats, curveFrom};
-ghost use Rattle.measure.specs.Bound.{widened, largerWidth, objectBound, worldBoundOf, worldBound};
+ghost use Rattle.measure.specs.Bound.{boundsIn, widened, largerWidth, objectBound, worldBoundOf, worldBound};
 use bezier::POINTS;
-use bezier::axis_in;
-use bezier::greatest;
-use bezier::least;
+use bezier::corners_of;
 use curve::UMAX;
 use curve::UMIN;
 use curve::control_points;
 use curve::is_curve;
 use curve::width_at;
 use geometry::Bounds3f;
-use geometry::Point3f;
+use geometry::point_from;
 use limits::is_matrix_within;
 use matrix::Matrix4x4;
 use transform::TransformedBounds;
@@ -34,33 +32,46 @@ fn larger_width(s: &[f32]) -> f32
     float::max(width_at(s, s[UMIN]), width_at(s, s[UMAX]))
 }
 
+// Both corners of a box, four floats each as the points have them: so they are widened and written as one.
+const CORNERS: usize = 8;
+
+const LOWER: usize = 0;
+
+const UPPER: usize = 4;
+
 // The box of control points, widened by half a width. It is given these and not the slice, which would be copied for the
 // next call and waited for.
-fn widened_box(p: &[f32; POINTS], width: f32) -> Bounds3f
-    ensures { λ r. ⌜ r ≡ widened (cubicIn (now (p .entry))) width ⌝ }
+fn widened_corners(p: &[f32; POINTS], width: f32) -> [f32; CORNERS]
+    ensures { λ r. ⌜ boundsIn r ≡ widened (cubicIn (now (p .entry))) width ⌝ }
 {
-    let x = axis_in(p, 0);
-    let y = axis_in(p, 1);
-    let z = axis_in(p, 2);
-    let p_min = Point3f {
-        x: least(x),
-        y: least(y),
-        z: least(z),
-    };
-    let p_max = Point3f {
-        x: greatest(x),
-        y: greatest(y),
-        z: greatest(z),
-    };
-    let points = Bounds3f { p_min, p_max };
-    points.expand(width * 0.5)
+    let c = corners_of(p);
+    let delta = width * 0.5;
+    [
+        c.x.least - delta,
+        c.y.least - delta,
+        c.z.least - delta,
+        c.fourth.least - delta,
+        c.x.greatest + delta,
+        c.y.greatest + delta,
+        c.z.greatest + delta,
+        c.fourth.greatest + delta,
+    ]
+}
+
+fn bounds_in(c: &[f32; CORNERS]) -> Bounds3f
+    ensures { λ r. ⌜ r ≡ boundsIn (now (c .entry)) ⌝ }
+{
+    Bounds3f {
+        p_min: point_from(c, LOWER),
+        p_max: point_from(c, UPPER),
+    }
 }
 
 pub fn object_bound(curve: &[f32]) -> Bound
     ensures { λ r. ⌜ r ≡ objectBound (now (curve .entry)) ⌝ }
 {
     if is_curve(curve) {
-        Bound::Bounds(widened_box(&control_points(curve), larger_width(curve)))
+        Bound::Bounds(bounds_in(&widened_corners(&control_points(curve), larger_width(curve))))
     } else {
         Bound::Refused(9)
     }
@@ -71,7 +82,10 @@ fn curve_world_bound(s: &[f32], m: Matrix4x4) -> Bound
     requires { ⌜ floats ≤ length (now s) ⌝ }
     ensures { λ r. ⌜ r ≡ worldBoundOf (curveFrom (now (s .entry))) m ⌝ }
 {
-    match transform_bounds(m, widened_box(&control_points(s), larger_width(s))) {
+    match transform_bounds(
+        m,
+        bounds_in(&widened_corners(&control_points(s), larger_width(s))),
+    ) {
         TransformedBounds::Bounds(b) => Bound::Bounds(b),
         TransformedBounds::ZeroWeight => Bound::Refused(12),
     }

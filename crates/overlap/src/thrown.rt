@@ -8,8 +8,7 @@ ghost use Rattle.overlap.specs.Thrown.{halfWidth, isOff, isOffZWhole, is
 use bezier::Axis;
 use bezier::POINTS;
 use bezier::axis_in;
-use bezier::greatest;
-use bezier::least;
+use bezier::extent_of;
 use curve::width_at;
 
 // Half the larger of the widths at a subcurve's ends. The curve is one that passed refusal 9.
@@ -24,14 +23,16 @@ pub fn half_width(curve: &[f32], u0: f32, u1: f32) -> f32
 fn is_off(a: Axis, w: f32, limit: f32) -> bool
     ensures { λ r. ⌜ r ≡ isOff a w limit ⌝ }
 {
-    (greatest(a) + w < 0.0) | (least(a) - w > limit)
+    let e = extent_of(a);
+    (e.greatest + w < 0.0) | (e.least - w > limit)
 }
 
 // The whole's test in z, as `intersect` has it: with a plus.
 fn is_off_z_whole(z: Axis, w: f32, zmax: f32) -> bool
     ensures { λ r. ⌜ r ≡ isOffZWhole z w zmax ⌝ }
 {
-    (greatest(z) + w < 0.0) | (least(z) + w > zmax)
+    let e = extent_of(z);
+    (e.greatest + w < 0.0) | (e.least + w > zmax)
 }
 
 // Whether a half is thrown out, with half its width. First y, the extent of which is the smallest as a rule.

@@ -14,11 +14,13 @@ larger-width-requires c κs = is-long _ _ (c .before .before .before .is-curve .
 
 returns : tie.Need-returns
 unfolding objectBound boundOf firstOf curveRefusals
-returns c = rw (← c .before .before .before .before .before .is-curve .ensures, c .before .before .before .before .if1 .taken, ← c .before .before .before .control-points .ensures, ← c .before .larger-width .ensures, ← c .widened-box .ensures)
+returns c =
+    let s = c .before .before .before .before .before in
+    rw (← s .before .before .is-curve .ensures, s .before .if1 .taken, ← s .control-points .ensures, ← c .before .before .before .larger-width .ensures, ← c .before .before .widened-corners .ensures, ← c .bounds-in .ensures)
 
 returns-2 : tie.Need-returns-2
 unfolding objectBound firstOf curveRefusals
 returns-2 c = rw (← c .before .is-curve .ensures, c .if1 .left)
 
 pub object-bound-spec : {M : Type 1} → statement M
-object-bound-spec = tie.close (tie.spec (λ c κs. tt) control-points-requires larger-width-requires (λ c κs. tt) returns returns-2)
+object-bound-spec = tie.close (tie.spec (λ c κs. tt) control-points-requires larger-width-requires (λ c κs. tt) (λ c κs. tt) returns returns-2)

@@ -5,7 +5,9 @@ use Rattle.overlap.proofs.thrown.is_off_z_whole.Tie as tie
 
 returns : tie.Need-returns
 unfolding isOffZWhole
-returns c = rw (c .least .ensures, c .before .greatest .ensures)
+returns c =
+    let e = c .before .before .extent-of .ensures in
+    rw (e .0, e .1)
 
 pub is-off-z-whole-spec : {M : Type 1} → statement M
-is-off-z-whole-spec = tie.close (tie.spec (λ c κs. tt) (λ c κs. tt) returns)
+is-off-z-whole-spec = tie.close (tie.spec (λ c κs. tt) returns)

@@ -1,7 +1,7 @@
--- `bezier::axis::max_of_number` meets its contract: each return rewrites by the facts on its way. Assumes nothing.
+-- `bezier::extent::max_of_number` meets its contract: each return rewrites by the facts on its way. Assumes nothing.
 use Rattle.float.specs.Basic.{maxOf}
-use Rattle.bezier.proofs.axis.max_of_number.Statement.{statement}
-use Rattle.bezier.proofs.axis.max_of_number.Tie as tie
+use Rattle.bezier.proofs.extent.max_of_number.Statement.{statement}
+use Rattle.bezier.proofs.extent.max_of_number.Tie as tie
 
 returns : tie.Need-returns
 unfolding maxOf

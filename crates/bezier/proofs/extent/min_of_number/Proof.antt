@@ -1,7 +1,7 @@
--- `bezier::axis::min_of_number` meets its contract: each return rewrites by the facts on its way. Assumes nothing.
+-- `bezier::extent::min_of_number` meets its contract: each return rewrites by the facts on its way. Assumes nothing.
 use Rattle.float.specs.Basic.{minOf}
-use Rattle.bezier.proofs.axis.min_of_number.Statement.{statement}
-use Rattle.bezier.proofs.axis.min_of_number.Tie as tie
+use Rattle.bezier.proofs.extent.min_of_number.Statement.{statement}
+use Rattle.bezier.proofs.extent.min_of_number.Tie as tie
 
 returns : tie.Need-returns
 unfolding minOf

@@ -1,0 +1,18 @@
+-- The least and the greatest of some values, carried along together. Definitions only.
+use mathlib.Core.Bool.{false}
+use mathlib.Core.Path.{_≡_}
+use lib.Ieee.{Float, isNan}
+use Rattle.float.specs.Basic.{maxOf, minOf}
+use Rattle.bezier.specs.declared.extent.Extent.{Extent}
+
+-- of one value
+unfoldable pub extentAt : Float → Extent
+extentAt v = record { least = v; greatest = v }
+
+-- of one value more
+unfoldable pub extentWith : Extent → Float → Extent
+extentWith e v = record { least = minOf (e .least) v; greatest = maxOf (e .greatest) v }
+
+-- both are numbers
+abbrev pub Numbers : Extent → Type 0
+Numbers e = (isNan (e .least) ≡ false) × (isNan (e .greatest) ≡ false)
