@@ -6,7 +6,7 @@ use crate::params;
 use crate::piece::{self, Piece};
 use crate::rng::Rng;
 use crate::words::{put, put_bounds, put_matrix, put_point, put_vector, Reader, Words};
-use crate::{beam, beam_inputs, curve_inputs, inputs, nearest_inputs};
+use crate::{beam, beam_inputs, corner_inputs, corners, curve_inputs, inputs, nearest_inputs};
 use pbrt::core::geometry::ray::Ray;
 use pbrt::core::geometry::vector::{vec3_coordinate_system, Vector3f};
 use pbrt::core::shape::{Shape, Shapes};
@@ -82,6 +82,12 @@ pub const KINDS: &[Kind] = &[
         "m(16) -> 00000001 or 00000000",
         inputs::swaps_handedness,
         swaps_handedness,
+    ),
+    kind(
+        "corners",
+        "p0(3) p1(3) p2(3) p3(3) -> lower(3) upper(3)",
+        corner_inputs::corners,
+        corners,
     ),
     kind("area", "piece -> status [area]", curve_inputs::piece, area),
     kind(
@@ -193,6 +199,11 @@ fn transform_point(line: &mut Reader, answer: &mut Words) {
 
 fn swaps_handedness(line: &mut Reader, answer: &mut Words) {
     answer.push(transform(line).swaps_handedness() as u32);
+}
+
+pub fn corners(line: &mut Reader, answer: &mut Words) {
+    let points = std::array::from_fn(|_| line.point());
+    put_bounds(answer, &corners::checked(&points));
 }
 
 /// What is asked of it here does not read its inverse.

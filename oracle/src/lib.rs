@@ -2,6 +2,8 @@
 
 pub mod beam;
 pub mod beam_inputs;
+pub mod corner_inputs;
+pub mod corners;
 pub mod cubic;
 pub mod curve_inputs;
 pub mod flat;

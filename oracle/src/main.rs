@@ -4,7 +4,7 @@ use oracle::kinds::{self, Kind, KINDS};
 use oracle::layout::CURVE_FLOATS;
 use oracle::rng::Rng;
 use oracle::words::{append, Reader, Words};
-use oracle::{panics, shares, sheet, sheet_inputs};
+use oracle::{corner_inputs, panics, shares, sheet, sheet_inputs};
 use std::io::{Read, Write};
 use std::panic::{catch_unwind, set_hook};
 use std::path::Path;
@@ -16,6 +16,7 @@ fn main() {
     match arguments.iter().map(String::as_str).collect::<Vec<_>>()[..] {
         ["--help"] => print!("{}", usage()),
         ["kinds"] => KINDS.iter().for_each(|kind| println!("{}", kind.name)),
+        ["every_corner"] => answers(kinds::corners, corner_inputs::every()),
         ["shares", seed, n] => shares::print(number(seed), number(n)),
         ["nearest_shares", seed, n] => shares::print_nearest(number(seed), number(n)),
         ["sheets", seed, n, dir] => sheets(number(seed), number(n), Path::new(dir)),
@@ -37,6 +38,7 @@ fn usage() -> String {
     let mut text = format!(
         "oracle KIND SEED N            N lines of that kind: the inputs, then the answer of the Rust\n\
          oracle kinds                  the names of the kinds\n\
+         oracle every_corner           lines of `corners`: every four of seven values, once in each coordinate\n\
          oracle shares SEED N          what the inputs of `intersect` reach, as shares of N lines\n\
          oracle nearest_shares SEED N  what the inputs of `nearest` reach\n\
          oracle sheets SEED N DIR      N belt sheets DIR/0.sheet, .. and what `beltbeam` prints for each, DIR/0.out, ..\n\
@@ -62,15 +64,22 @@ fn wrong_usage() -> ! {
 
 fn lines(kind: &Kind, seed: u64, n: u64) {
     let mut rng = Rng::new(seed, kind.name);
-    let mut inputs = Words::new();
-    let mut text = String::new();
-    for _ in 0..n {
-        inputs.clear();
+    let drawn = (0..n).map(|_| {
+        let mut inputs = Words::new();
         (kind.inputs)(&mut rng, &mut inputs);
+        inputs
+    });
+    answers(kind.answer, drawn);
+}
+
+/// A line for each of the inputs.
+fn answers(answer: fn(&mut Reader, &mut Words), all: impl Iterator<Item = Words>) {
+    let mut text = String::new();
+    for inputs in all {
         let answer = catch_unwind(|| {
-            let mut answer = Words::new();
-            (kind.answer)(&mut Reader(&inputs), &mut answer);
-            answer
+            let mut words = Words::new();
+            answer(&mut Reader(&inputs), &mut words);
+            words
         });
         append(&mut text, &inputs);
         append(&mut text, &answer.unwrap_or_default());

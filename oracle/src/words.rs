@@ -42,6 +42,13 @@ pub fn put_matrix(words: &mut Words, m: &Matrix4x4) {
     put(words, m.m.as_flattened());
 }
 
+/// A NaN equals any NaN, and in boxes -0 equals 0. A count is too small to be a NaN.
+pub fn same_word(a: u32, b: u32, in_boxes: bool) -> bool {
+    let [x, y] = [a, b].map(f32::from_bits);
+
+    a == b || x.is_nan() && y.is_nan() || in_boxes && x == 0.0 && y == 0.0
+}
+
 /// Eight lower-case hexadecimal digits each, one space between them.
 pub fn text(words: &[u32]) -> String {
     let mut text = String::with_capacity(9 * words.len());

@@ -1,6 +1,6 @@
 //! How a call ends, and when two ends are the same.
 
-use oracle::words::{text, Words};
+use oracle::words::{same_word, text, Words};
 
 /// The number that a call answers, and its outputs as they stand after it.
 pub struct Answer {
@@ -66,13 +66,6 @@ impl Output {
 
         &self.words[from..self.words.len().min(from + SHOWN)]
     }
-}
-
-/// A NaN equals any NaN, and in boxes -0 equals 0. A count is too small to be a NaN.
-fn same_word(a: u32, b: u32, in_boxes: bool) -> bool {
-    let [x, y] = [a, b].map(f32::from_bits);
-
-    a == b || x.is_nan() && y.is_nan() || in_boxes && x == 0.0 && y == 0.0
 }
 
 /// What differs, if anything: the numbers, and each output that is not the same.
