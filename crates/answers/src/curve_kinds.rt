@@ -1,9 +1,16 @@
-// The library's answers of curves: area and boxes. Each function answers how many words it put.
+// The library's answers of curves, area and boxes, and of any four points, their corners. Each function answers how many
+// words it put.
 use crate::places::CURVE;
 use crate::places::CURVE_END;
+use crate::places::P0;
+use crate::places::P1;
+use crate::places::P2;
+use crate::places::P3;
 use crate::put::DONE;
 use crate::put::put_bounds;
 use crate::put::put_status;
+use bezier::Cubic;
+use geometry::point_from;
 use lines::Floats;
 use lines::Out;
 use lines::put_floats;
@@ -15,6 +22,19 @@ use measure::Measured;
 pub fn curve_in<'a>(floats: &'a Floats) -> &'a [f32] {
     let all = &floats[..];
     &all[CURVE..CURVE_END]
+}
+
+// The lower corner, then the upper.
+pub fn corners(floats: &Floats, out: &mut Out) -> usize {
+    let cp = Cubic {
+        p0: point_from(floats, P0),
+        p1: point_from(floats, P1),
+        p2: point_from(floats, P2),
+        p3: point_from(floats, P3),
+    };
+    let c = bezier::corners_of(&bezier::points_of(cp));
+    let upper = put_floats(out, 0, &[c.x.least, c.y.least, c.z.least]);
+    put_floats(out, upper, &[c.x.greatest, c.y.greatest, c.z.greatest])
 }
 
 pub fn area(floats: &Floats, out: &mut Out) -> usize {

@@ -11,6 +11,7 @@ pub enum Kind {
     TransformBounds,
     SwapsHandedness,
     LookAt,
+    Corners,
     Area,
     ObjectBound,
     WorldBound,

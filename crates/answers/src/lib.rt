@@ -30,6 +30,7 @@ pub fn answer(kind: Kind, words: &Words, floats: &Floats, out: &mut Out) -> usiz
         Kind::TransformBounds => transform_kinds::transform_bounds(floats, out),
         Kind::SwapsHandedness => transform_kinds::swaps_handedness(floats, out),
         Kind::LookAt => transform_kinds::look_at(floats, out),
+        Kind::Corners => curve_kinds::corners(floats, out),
         Kind::Area => curve_kinds::area(floats, out),
         Kind::ObjectBound => curve_kinds::object_bound(floats, out),
         Kind::WorldBound => curve_kinds::world_bound(floats, out),

@@ -52,6 +52,17 @@ pub const P_MAX: usize = P_MIN + POINT_FLOATS;
 
 const P_MAX_END: usize = P_MAX + POINT_FLOATS;
 
+// corners: four points.
+pub const P0: usize = 0;
+
+pub const P1: usize = P0 + POINT_FLOATS;
+
+pub const P2: usize = P1 + POINT_FLOATS;
+
+pub const P3: usize = P2 + POINT_FLOATS;
+
+const P3_END: usize = P3 + POINT_FLOATS;
+
 // A cast, by the oracle's name: what a line of intersect or nearest has behind its curves. The places are from its start.
 pub const OBJECT_TO_WORLD: usize = 0;
 
@@ -125,6 +136,7 @@ pub fn input_words(kind: Kind, words: &Words) -> usize {
         Kind::TransformRayError => MATRIX_RAY_END,
         Kind::TransformBounds => P_MAX_END,
         Kind::LookAt => UP_END,
+        Kind::Corners => P3_END,
         Kind::Area | Kind::ObjectBound => CURVE_END,
         Kind::WorldBound => CURVE_MATRIX_END,
         Kind::CreateCurveShape => points_end(words[POINTS_LEN]),
