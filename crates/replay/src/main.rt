@@ -80,6 +80,7 @@ fn main() {
     replay(Kind::TransformBounds, b"transform_bounds.txt");
     replay(Kind::SwapsHandedness, b"swaps_handedness.txt");
     replay(Kind::LookAt, b"look_at.txt");
+    replay(Kind::Corners, b"corners.txt");
     replay(Kind::Area, b"area.txt");
     replay(Kind::ObjectBound, b"object_bound.txt");
     replay(Kind::WorldBound, b"world_bound.txt");
