@@ -1,6 +1,6 @@
 -- Numbers and NaNs in `min` and `max`. Assumes nothing.
 use mathlib.Core.Path.{_≡_, refl, sym, subst, _∙_}
-use mathlib.Core.Bool.{Bool, true, false, _||_, cond, true≢false, false≢true}
+use mathlib.Core.Bool.{Bool, true, false, _||_, cond, true≢false}
 use lib.Ieee.{Float, lt, ne, isNan}
 use Rattle.float.specs.Basic.{maxOf, minOf}
 use Rattle.float.proofs.Compare.{itself}

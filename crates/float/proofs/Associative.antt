@@ -7,46 +7,48 @@ use Rattle.float.proofs.Order.{number-before, number-behind, lt-trans, 
 
 -- both at once: b where a is a NaN or b goes before a, and a otherwise
 module _
-  (before : Float → Float → Bool)
-  (number : (x y : Float) → before x y ≡ true → isNan x ≡ false)
-  (before-trans : (x y z : Float) → before x y ≡ true → before y z ≡ true → before x z ≡ true)
-  (not-before-trans : (x y z : Float) → isNan y ≡ false → before x y ≡ false → before y z ≡ false → before x z ≡ false)
+    (before : Float → Float → Bool)
+    (number : (x y : Float) → before x y ≡ true → isNan x ≡ false)
+    (before-trans : (x y z : Float) → before x y ≡ true → before y z ≡ true → before x z ≡ true)
+    (not-before-trans : (x y z : Float) → isNan y ≡ false → before x y ≡ false → before y z ≡ false → before x z ≡ false)
   where
-  abbrev takes : Float → Float → Bool
-  takes a b = isNan a || before b a
+    abbrev takes : Float → Float → Bool
+    takes a b = isNan a || before b a
 
-  pick : Float → Float → Float
-  pick a b = cond (takes a b) b a
+    pick : Float → Float → Float
+    pick a b = cond (takes a b) b a
 
-  -- c is taken after b, and b after a: then c is taken after a
-  taken : (a b c : Float) → takes a b ≡ true → takes b c ≡ true → takes a c ≡ true
-  taken a b c h k = go (isNan a) (isNan b) refl refl h k
-    where
-      go : (m n : Bool) → isNan a ≡ m → isNan b ≡ n → m || before b a ≡ true → n || before c b ≡ true → m || before c a ≡ true
-      go true n M N h k = refl
-      go false true M N h k = absurd (true≢false (sym N ∙ number b a h))
-      go false false M N h k = before-trans c b a k h
+    -- c is taken after b, and b after a: then c is taken after a
+    taken : (a b c : Float) → takes a b ≡ true → takes b c ≡ true → takes a c ≡ true
+    taken a b c h k = go (isNan a) (isNan b) refl refl h k
+      where
+        go : (m n : Bool) → isNan a ≡ m → isNan b ≡ n → m || before b a ≡ true → n || before c b ≡ true → m || before c a ≡ true
+        go true n M N h k = refl
+        go false true M N h k = absurd (true≢false (sym N ∙ number b a h))
+        go false false M N h k = before-trans c b a k h
 
-  left : (a b c : Float) → takes a b ≡ false → takes b c ≡ false → takes a c ≡ false
-  left a b c h k = go (isNan a) (isNan b) refl refl h k
-    where
-      go : (m n : Bool) → isNan a ≡ m → isNan b ≡ n → m || before b a ≡ false → n || before c b ≡ false → m || before c a ≡ false
-      go true n M N h k = absurd (true≢false h)
-      go false true M N h k = absurd (true≢false k)
-      go false false M N h k = not-before-trans c b a N k h
+    -- and left so
+    left : (a b c : Float) → takes a b ≡ false → takes b c ≡ false → takes a c ≡ false
+    left a b c h k = go (isNan a) (isNan b) refl refl h k
+      where
+        go : (m n : Bool) → isNan a ≡ m → isNan b ≡ n → m || before b a ≡ false → n || before c b ≡ false → m || before c a ≡ false
+        go true n M N h k = absurd (true≢false h)
+        go false true M N h k = absurd (true≢false k)
+        go false false M N h k = not-before-trans c b a N k h
 
-  is : {t : Bool} (a b : Float) → takes a b ≡ t → pick a b ≡ cond t b a
-  unfolding pick
-  is a b h = ap (λ (t : Bool). cond t b a) h
+    is : {t : Bool} (a b : Float) → takes a b ≡ t → pick a b ≡ cond t b a
+    unfolding pick
+    is a b h = ap (λ (t : Bool). cond t b a) h
 
-  associative : (a b c : Float) → pick (pick a b) c ≡ pick a (pick b c)
-  associative a b c = go (takes a b) (takes b c) refl refl
-    where
-      go : (s t : Bool) → takes a b ≡ s → takes b c ≡ t → pick (pick a b) c ≡ pick a (pick b c)
-      go true true h k = rw (is a b h, is b c k, is a c (taken a b c h k))
-      go true false h k = rw (is a b h, is b c k, is a b h)
-      go false true h k = rw (is a b h, is b c k)
-      go false false h k = rw (is a b h, is b c k, is a c (left a b c h k), is a b h)
+    -- by which of a and b is taken, and which of b and c
+    associative : (a b c : Float) → pick (pick a b) c ≡ pick a (pick b c)
+    associative a b c = go (takes a b) (takes b c) refl refl
+      where
+        go : (s t : Bool) → takes a b ≡ s → takes b c ≡ t → pick (pick a b) c ≡ pick a (pick b c)
+        go true true h k = rw (is a b h, is b c k, is a c (taken a b c h k))
+        go true false h k = rw (is a b h, is b c k, is a b h)
+        go false true h k = rw (is a b h, is b c k)
+        go false false h k = rw (is a b h, is b c k, is a c (left a b c h k), is a b h)
 
 pub min-assoc : (a b c : Float) → minOf (minOf a b) c ≡ minOf a (minOf b c)
 unfolding minOf pick

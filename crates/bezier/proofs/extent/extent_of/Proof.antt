@@ -1,7 +1,6 @@
 -- `bezier::extent::extent_of` meets its contract: a pass finds what pairs find. Assumes nothing.
 use mathlib.Core.Path.{_∙_}
 use Rattle.float.proofs.Compare.{itself}
-use Rattle.bezier.specs.Axis.{leastIn, greatestIn}
 use Rattle.bezier.specs.Extent.{extentAt, extentWith}
 use Rattle.bezier.proofs.Numbers.{numbers-with}
 use Rattle.bezier.proofs.Passes.{least-by-pass, greatest-by-pass, least-from-second, greatest-from-second}
