@@ -11,15 +11,22 @@ use Rattle.bezier.specs.declared.points.PaddedPoint.{PaddedPoint}
 use Rattle.bezier.specs.Corners.{AllNumbers, cornersWith}
 use Rattle.bezier.specs.Extent.{extentWith, Numbers}
 
--- past the test for a NaN all are numbers
+neither : (p q : Bool) → p || q ≡ false → (p ≡ false) × (q ≡ false)
+neither true q e = absurd (true≢false e)
+neither false q e = (refl, e)
+
+-- past the test for a NaN both are numbers, or all
+pub both-numbers : (a b : Float) → ne a a || ne b b ≡ false → (isNan a ≡ false) × (isNan b ≡ false)
+both-numbers a b e =
+    let h = neither (ne a a) (ne b b) e in
+    (itself a ∙ h .0, itself b ∙ h .1)
+
 pub all-numbers : (a b c d : Float) → ne a a || ne b b || ne c c || ne d d ≡ false → (isNan a ≡ false) × (isNan b ≡ false) × (isNan c ≡ false) × (isNan d ≡ false)
-all-numbers a b c d e = go (ne a a) (ne b b) (ne c c) (ne d d) e (itself a) (itself b) (itself c) (itself d)
-  where
-    go : (p q r s : Bool) → p || q || r || s ≡ false → isNan a ≡ p → isNan b ≡ q → isNan c ≡ r → isNan d ≡ s → (isNan a ≡ false) × (isNan b ≡ false) × (isNan c ≡ false) × (isNan d ≡ false)
-    go true q r s e A B C D = absurd (true≢false e)
-    go false true r s e A B C D = absurd (true≢false e)
-    go false false true s e A B C D = absurd (true≢false e)
-    go false false false s e A B C D = (A, B, C, D ∙ e)
+all-numbers a b c d e =
+    let h = neither (ne a a || ne b b || ne c c) (ne d d) e in
+    let k = neither (ne a a || ne b b) (ne c c) (h .0) in
+    let n = both-numbers a b (k .0) in
+    (n .0, n .1, itself c ∙ k .1, itself d ∙ h .1)
 
 -- what is picked is a number, if b is one where the test says so
 picks : (a b : Float) (t : Bool) → isNan a ≡ false → (t ≡ true → isNan b ≡ false) → isNan (cond (isNan a || t) b a) ≡ false

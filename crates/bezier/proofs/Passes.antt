@@ -1,12 +1,9 @@
 -- Passes from the first to the last of four. Assumes nothing.
-use mathlib.Core.Bool.{true}
 use mathlib.Core.List.{List}
 use mathlib.Core.Path.{_≡_, refl}
-use lib.Ieee.{Float, ne}
+use lib.Ieee.{Float}
 use Rattle.float.specs.Basic.{maxOf, minOf}
 use Rattle.float.proofs.Associative.{min-assoc, max-assoc}
-use Rattle.float.proofs.Compare.{nan-of}
-use Rattle.float.proofs.NanDropped.{min-first-nan, max-first-nan}
 use Rattle.geometry.specs.Point.{pointFrom, leastOf, greatestOf}
 use Rattle.bezier.specs.declared.axis.Axis.{Axis}
 use Rattle.bezier.specs.Axis.{leastIn, greatestIn}
@@ -23,15 +20,6 @@ least-by-pass a = min-assoc (minOf (a .p0) (a .p1)) (a .p2) (a .p3)
 pub greatest-by-pass : (a : Axis) → maxOf (maxOf (maxOf (a .p0) (a .p1)) (a .p2)) (a .p3) ≡ greatestIn a
 unfolding greatestIn
 greatest-by-pass a = max-assoc (maxOf (a .p0) (a .p1)) (a .p2) (a .p3)
-
--- where the first is a NaN, from the second on
-pub least-from-second : (a : Axis) → ne (a .p0) (a .p0) ≡ true → minOf (minOf (a .p1) (a .p2)) (a .p3) ≡ leastIn a
-unfolding leastIn
-least-from-second a h = rw (nan-of (a .p0) h, min-first-nan (a .p1)) (min-assoc (a .p1) (a .p2) (a .p3))
-
-pub greatest-from-second : (a : Axis) → ne (a .p0) (a .p0) ≡ true → maxOf (maxOf (a .p1) (a .p2)) (a .p3) ≡ greatestIn a
-unfolding greatestIn
-greatest-from-second a h = rw (nan-of (a .p0) h, max-first-nan (a .p1)) (max-assoc (a .p1) (a .p2) (a .p3))
 
 -- ---- the two corners that are carried along are those of a pass each
 

@@ -13,6 +13,10 @@ extentAt v = record { least = v; greatest = v }
 unfoldable pub extentWith : Extent → Float → Extent
 extentWith e v = record { least = minOf (e .least) v; greatest = maxOf (e .greatest) v }
 
+-- of two together
+unfoldable pub extentUnion : Extent → Extent → Extent
+extentUnion e f = record { least = minOf (e .least) (f .least); greatest = maxOf (e .greatest) (f .greatest) }
+
 -- both are numbers
 abbrev pub Numbers : Extent → Type 0
 Numbers e = (isNan (e .least) ≡ false) × (isNan (e .greatest) ≡ false)

@@ -4,7 +4,7 @@ ghost use lib.Ieee.{isNan};
 ghost use mathlib.Core.Bool.{false};
 ghost use Rattle.float.specs.Basic.{maxOf, minOf};
 ghost use Rattle.bezier.specs.Axis.{leastIn, greatestIn};
-ghost use Rattle.bezier.specs.Extent.{extentAt, extentWith, Numbers};
+ghost use Rattle.bezier.specs.Extent.{extentAt, extentWith, extentUnion, Numbers};
 use crate::axis::Axis;
 
 pub struct Extent {
@@ -56,20 +56,31 @@ impl Extent {
             greatest: max_of_number(self.greatest, v),
         }
     }
+
+    // Of two together, where those of the first are known to be numbers.
+    fn union_extent(self, e: Extent) -> Extent
+        requires { ⌜ Numbers self ⌝ }
+        ensures { λ r. ⌜ r ≡ extentUnion self e ⌝ }
+    {
+        Extent {
+            least: min_of_number(self.least, e.least),
+            greatest: max_of_number(self.greatest, e.greatest),
+        }
+    }
 }
 
-// That of a coordinate, in one pass from the first point to the last. Where the first is a number, so is all that is
-// carried, and no other NaN matters; where it is a NaN the pass begins at the second.
+// That of a coordinate, by pairs: neither waits for the other. Where the first of each pair is a number, so is all that is
+// carried, and no other NaN matters.
 pub fn extent_of(a: Axis) -> Extent
     ensures { λ r. ⌜ r .least ≡ leastIn a ⌝ }
     ensures { λ r. ⌜ r .greatest ≡ greatestIn a ⌝ }
 {
-    if a.p0 != a.p0 {
-        let second = Extent::from_value(a.p1);
-        second.union_value(a.p2).union_value(a.p3)
-    } else {
+    if (a.p0 != a.p0) | (a.p2 != a.p2) {
         let first = Extent::from_value(a.p0);
-        let third = first.union_of_numbers(a.p1).union_of_numbers(a.p2);
-        third.union_of_numbers(a.p3)
+        first.union_value(a.p1).union_value(a.p2).union_value(a.p3)
+    } else {
+        let first = Extent::from_value(a.p0).union_of_numbers(a.p1);
+        let second = Extent::from_value(a.p2).union_of_numbers(a.p3);
+        first.union_extent(second)
     }
 }
