@@ -27,17 +27,7 @@ use Rattle.measure.specs.declared.bound.Bound.the-variants.{Bounds, Refu
 unfoldable pub boxOf : Cubic → Bounds3f
 boxOf p = union (boundsOf (p .p0) (p .p1)) (boundsOf (p .p2) (p .p3))
 
--- a box as floats that are lent: where the lower corner starts, and the upper
-abbrev pub lowerAt : ℕ
-lowerAt = 0
-
-abbrev pub upperAt : ℕ
-upperAt = 4
-
-unfoldable pub boundsIn : List Float → Bounds3f
-boundsIn l = record { «p_min» = pointFrom l lowerAt; «p_max» = pointFrom l upperAt }
-
--- that of four points, widened by half a width
+-- that, widened by half a width
 unfoldable pub widened : Cubic → Float → Bounds3f
 widened p width = expanded (boxOf p) (width ⊗ half)
 
@@ -68,3 +58,15 @@ worldBoundRefusals l m = (not (isCurve l), 9) ∷ (not (matrixWithin m), 10) ∷
 
 unfoldable pub worldBound : List Float → Matrix4x4 → Bound
 worldBound l m = told Refused (firstOf (worldBoundRefusals l m)) (worldBoundOf (curveFrom l) m)
+
+-- ---- a box as floats that are lent, for functions inside
+
+-- where the lower corner starts, and the upper
+abbrev pub lowerAt : ℕ
+lowerAt = 0
+
+abbrev pub upperAt : ℕ
+upperAt = 4
+
+unfoldable pub boundsIn : List Float → Bounds3f
+boundsIn l = record { «p_min» = pointFrom l lowerAt; «p_max» = pointFrom l upperAt }
