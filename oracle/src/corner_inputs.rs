@@ -5,9 +5,9 @@ use crate::rng::{neighbour, Rng};
 use crate::words::{put, Words};
 
 /// A coordinate of the four points.
-type Fourfold = [f32; 4];
+type Quadruple = [f32; 4];
 
-/// Few enough to try every fourfold of them, and enough for every order, tie and NaN that four values can have.
+/// Few enough to try every quadruple of them, and enough for every order, tie and NaN that four values can have.
 const FEW: [f32; 7] = [
     f32::NAN,
     f32::NEG_INFINITY,
@@ -18,23 +18,23 @@ const FEW: [f32; 7] = [
     f32::INFINITY,
 ];
 
-const FOURFOLDS: usize = FEW.len().pow(4);
+const QUADRUPLES: usize = FEW.len().pow(4);
 
-/// From one coordinate's fourfold to the next one's. A third of them all: the three differ at every place.
-const APART: usize = FOURFOLDS / 3;
+/// From one coordinate's quadruple to the next one's. A third of them all: the three differ at every place.
+const APART: usize = QUADRUPLES / 3;
 
 pub fn corners(rng: &mut Rng, words: &mut Words) {
-    let one: fn(&mut Rng) -> Fourfold = match rng.below(3) {
+    let one: fn(&mut Rng) -> Quadruple = match rng.below(3) {
         0 => nans_and_zeros,
         1 => few,
-        _ => fourfold,
+        _ => quadruple,
     };
     put_points(words, std::array::from_fn(|_| one(rng)));
 }
 
-/// The inputs of one line for each fourfold of the few; it stands once in x, once in y and once in z.
+/// The inputs of one line for each quadruple of the few; it stands once in x, once in y and once in z.
 pub fn every() -> impl Iterator<Item = Words> {
-    (0..FOURFOLDS).map(|i| {
+    (0..QUADRUPLES).map(|i| {
         let mut words = Words::new();
         put_points(&mut words, [i, i + APART, i + 2 * APART].map(nth));
         words
@@ -42,25 +42,25 @@ pub fn every() -> impl Iterator<Item = Words> {
 }
 
 /// Behind the last the first comes again.
-fn nth(i: usize) -> Fourfold {
+fn nth(i: usize) -> Quadruple {
     std::array::from_fn(|place| FEW[i / FEW.len().pow(place as u32) % FEW.len()])
 }
 
-fn put_points(words: &mut Words, [x, y, z]: [Fourfold; 3]) {
+fn put_points(words: &mut Words, [x, y, z]: [Quadruple; 3]) {
     for i in 0..4 {
         put(words, &[x[i], y[i], z[i]]);
     }
 }
 
-fn few(rng: &mut Rng) -> Fourfold {
+fn few(rng: &mut Rng) -> Quadruple {
     std::array::from_fn(|_| rng.pick(&FEW))
 }
 
-fn nans_and_zeros(rng: &mut Rng) -> Fourfold {
+fn nans_and_zeros(rng: &mut Rng) -> Quadruple {
     std::array::from_fn(|_| rng.pick(&[f32::NAN, -0.0, 0.0]))
 }
 
-fn fourfold(rng: &mut Rng) -> Fourfold {
+fn quadruple(rng: &mut Rng) -> Quadruple {
     let mut values = match rng.below(8) {
         0 => std::array::from_fn(|_| rng.any()),
         1 => rng.zeros(),
