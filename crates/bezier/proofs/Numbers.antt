@@ -9,7 +9,7 @@ use Rattle.bezier.specs.declared.corners.Corners.{Corners}
 use Rattle.bezier.specs.declared.extent.Extent.{Extent}
 use Rattle.bezier.specs.declared.points.PaddedPoint.{PaddedPoint}
 use Rattle.bezier.specs.Corners.{AllNumbers, cornersWith}
-use Rattle.bezier.specs.Extent.{extentWith, Numbers}
+use Rattle.bezier.specs.Extent.{extentAt, extentUnion, extentWith, Numbers}
 
 neither : (p q : Bool) → p || q ≡ false → (p ≡ false) × (q ≡ false)
 neither true q e = absurd (true≢false e)
@@ -43,7 +43,7 @@ unfolding maxOf
 max-number a b h = picks a b (lt a b) h (number-behind b a)
 
 pub numbers-with : (e : Extent) (v : Float) → Numbers e → Numbers (extentWith e v)
-unfolding extentWith
+unfolding extentWith extentUnion extentAt
 numbers-with e v n = (min-number (e .least) v (n .0), max-number (e .greatest) v (n .1))
 
 pub all-numbers-with : (c : Corners) (p : PaddedPoint) → AllNumbers c → AllNumbers (cornersWith c p)

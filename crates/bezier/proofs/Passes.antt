@@ -8,7 +8,7 @@ use Rattle.geometry.specs.Point.{pointFrom, leastOf, greatestOf}
 use Rattle.bezier.specs.declared.axis.Axis.{Axis}
 use Rattle.bezier.specs.Axis.{leastIn, greatestIn}
 use Rattle.bezier.specs.Corners.{lowerCorner, upperCorner, cornersAt, cornersWith, lowerIn, upperIn}
-use Rattle.bezier.specs.Extent.{extentAt, extentWith}
+use Rattle.bezier.specs.Extent.{extentAt, extentUnion, extentWith}
 use Rattle.bezier.specs.Points.{p0At, p1At, p2At, p3At, cubicIn, paddedIn}
 
 -- ---- they find what `leastIn` and `greatestIn` take by pairs
@@ -24,5 +24,5 @@ greatest-by-pass a = max-assoc (maxOf (a .p0) (a .p1)) (a .p2) (a .p3)
 -- ---- the two corners that are carried along are those of a pass each
 
 pub both-carried : (l : List Float) → let c = cornersWith (cornersWith (cornersWith (cornersAt (paddedIn l p0At)) (paddedIn l p1At)) (paddedIn l p2At)) (paddedIn l p3At) in (lowerIn c ≡ lowerCorner (cubicIn l)) × (upperIn c ≡ upperCorner (cubicIn l))
-unfolding lowerIn upperIn lowerCorner upperCorner cornersWith cornersAt extentWith extentAt cubicIn paddedIn pointFrom leastOf greatestOf
+unfolding lowerIn upperIn lowerCorner upperCorner cornersWith cornersAt extentWith extentUnion extentAt cubicIn paddedIn pointFrom leastOf greatestOf
 both-carried l = (refl, refl)

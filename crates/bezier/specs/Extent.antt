@@ -9,13 +9,13 @@ use Rattle.bezier.specs.declared.extent.Extent.{Extent}
 unfoldable pub extentAt : Float → Extent
 extentAt v = record { least = v; greatest = v }
 
--- of one value more
-unfoldable pub extentWith : Extent → Float → Extent
-extentWith e v = record { least = minOf (e .least) v; greatest = maxOf (e .greatest) v }
-
 -- of two together
 unfoldable pub extentUnion : Extent → Extent → Extent
 extentUnion e f = record { least = minOf (e .least) (f .least); greatest = maxOf (e .greatest) (f .greatest) }
+
+-- of one value more
+unfoldable pub extentWith : Extent → Float → Extent
+extentWith e v = extentUnion e (extentAt v)
 
 -- both are numbers
 abbrev pub Numbers : Extent → Type 0

@@ -46,17 +46,6 @@ impl Extent {
         }
     }
 
-    // The same where both are known to be numbers.
-    pub fn union_of_numbers(self, v: f32) -> Extent
-        requires { ⌜ Numbers self ⌝ }
-        ensures { λ r. ⌜ r ≡ extentWith self v ⌝ }
-    {
-        Extent {
-            least: min_of_number(self.least, v),
-            greatest: max_of_number(self.greatest, v),
-        }
-    }
-
     // Of two together, where those of the first are known to be numbers.
     fn union_extent(self, e: Extent) -> Extent
         requires { ⌜ Numbers self ⌝ }
@@ -66,6 +55,14 @@ impl Extent {
             least: min_of_number(self.least, e.least),
             greatest: max_of_number(self.greatest, e.greatest),
         }
+    }
+
+    // `union_value` where both are known to be numbers.
+    pub fn union_of_numbers(self, v: f32) -> Extent
+        requires { ⌜ Numbers self ⌝ }
+        ensures { λ r. ⌜ r ≡ extentWith self v ⌝ }
+    {
+        self.union_extent(Extent::from_value(v))
     }
 }
 

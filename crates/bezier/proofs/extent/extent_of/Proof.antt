@@ -25,7 +25,7 @@ union-extent-requires c κs =
     rw (s .union-of-numbers .ensures) (numbers-with _ _ (union-of-numbers-requires (s .before) _))
 
 returns : tie.Need-returns
-unfolding extentAt extentWith
+unfolding extentAt extentWith extentUnion
 returns c =
     let s = c .before .before in
     rw (c .union-value3 .ensures, c .before .union-value2 .ensures, s .union-value .ensures, s .before .from-value .ensures) (least-by-pass _, greatest-by-pass _)

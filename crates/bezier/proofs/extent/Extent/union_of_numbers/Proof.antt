@@ -6,7 +6,7 @@ use Rattle.bezier.proofs.extent.Extent.union_of_numbers.Tie as tie
 
 returns : tie.Need-returns
 unfolding extentWith
-returns c = rw (c .max-of-number .ensures, c .before .min-of-number .ensures)
+returns c = rw (c .union-extent .ensures, c .before .from-value .ensures)
 
 pub union-of-numbers-spec : {M : Type 1} → statement M
-union-of-numbers-spec = tie.close (tie.spec (λ c κs. search needs) (λ c κs. search needs) returns)
+union-of-numbers-spec = tie.close (tie.spec (λ c κs. tt) (λ c κs. search needs) returns)
