@@ -1,97 +1,22 @@
--- `closest a b`, the whole number nearest to a / b: what a number has to be for it (`closest-by`), and that it is one quotient, with something added first. Assumes nothing.
-use mathlib.Core.Path.{_≡_, refl, sym, ap, _∙_, subst}
-use mathlib.Core.Bool.{not}
+-- `closest a b`, the whole number nearest to a / b, a half to the even one: what a number has to be for it, its bounds, and where no half can arise. Assumes nothing.
+use mathlib.Core.Path.{_≡_, refl, sym, ap, _∙_}
 use Prim.Native.Nat.{ℕ, zero, suc, _+_, _-_, _*_, _/_, _%_, _≤_, _<_, compare, Ordering, Ordering·lt, Ordering·eq, Ordering·gt}
-use native.Mathlib.Nat.{add-zero, add-assoc, div-add-mod', mod-lt, suc-mul, mul-pos, zero-lt-suc, div-eq-of-lt, mod-eq-of-lt, le-trans, lt-of-le-of-lt, lt-suc-self, zero-add, zero-mul, add-mul, one-mul, mul-assoc, div-lt-iff-lt-mul, le-div-iff-mul-le}
+use native.Mathlib.Nat.{add-assoc, div-add-mod', mod-lt, le-trans, lt-of-le-of-lt, lt-suc-self, zero-add, zero-mul, add-mul, one-mul, mul-assoc, div-lt-iff-lt-mul, le-div-iff-mul-le}
+use native.Mathlib.Numerals.{add-one}
 use native.Mathlib.Omega.{arith}
-use lib.Dec.{T, isLe, isEq, eqb, leb→le, nleb→lt, eqb→eq, eqb-refl}
-use lib.Arith.{digits-div, digits-mod, lt-of-le-ne}
+use lib.Arith.{digits-div, digits-mod}
 use lib.Ieee.{nearest}
 use lib.Ieee.Fits.{nearest-le}
 use lib.Ieee.Nearest.{closest, nearest-ge}
+use Rattle.float.proofs.Nearest.{by-rest, nearest-none, nearest-even}
 
 -- by the three ways in which twice the remainder can compare with the divisor
 closest-by : (a b v : ℕ) → (a % b * 2 < b → v ≡ a / b) → (a % b * 2 ≡ b → v ≡ a / b + a / b % 2) → (b < a % b * 2 → v ≡ suc (a / b)) → v ≡ closest a b
-closest-by a b v below tie above =
-    let x = a % b * 2 in
-    go (compare x b) (leb→le x b) (nleb→lt x b) (eqb→eq x b) (λ (e : x ≡ b). subst (λ (y : ℕ). T (eqb x y)) e (eqb-refl x))
-  where
-    go : (o : Ordering) → (T (isLe o) → a % b * 2 ≤ b) → (T (not (isLe o)) → b < a % b * 2) → (T (isEq o) → a % b * 2 ≡ b) → (a % b * 2 ≡ b → T (isEq o)) → v ≡ nearest (a / b) o
-    go Ordering·lt h k e n = below (lt-of-le-ne (h tt) n)
-    go Ordering·eq h k e n = tie (e tt)
-    go Ordering·gt h k e n = above (k tt)
+closest-by a b v below tie above = by-rest (λ (w : ℕ). v ≡ w) (λ _. a / b % 2) a b below tie (λ h. above h ∙ sym (add-one (a / b))) ∙ nearest-even a b
 
 -- less than a half is nothing
 pub closest-zero : (a b : ℕ) → a * 2 < b → 0 ≡ closest a b
-closest-zero a b h =
-    closest-by a b 0 (λ l. sym (div-eq-of-lt less)) (λ e. absurd (no (a % b) (mod-eq-of-lt less) e)) (λ g. absurd (no′ (a % b) (mod-eq-of-lt less) g))
-  where
-    less : a < b
-    less = omega arith
-
-    no : (r : ℕ) → r ≡ a → r * 2 ≡ b → ⊥
-    no r e g = omega arith
-
-    no′ : (r : ℕ) → r ≡ a → b < r * 2 → ⊥
-    no′ r e g = omega arith
-
--- ---- with h for half of the divisor: r + (h - 1) + q % 2 reaches the divisor where r is above h, or is h and q is odd
-
-carries : (q u z : ℕ) → u ≤ z → z < u + u → (q * u + z) / u ≡ suc q
-carries q u z l h = ap (λ (x : ℕ). x / u) (go (q * u) (suc q * u) (suc-mul q u)) ∙ digits-div (suc q) less
-  where
-    go : (x y : ℕ) → y ≡ x + u → x + z ≡ y + (z - u)
-    go x y e = omega arith
-
-    less : z - u < u
-    less = omega arith
-
-module _ (q r h : ℕ) (H : 0 < h) (R : r < 2 * h) where
-  abbrev z : ℕ
-  z = r + (h - 1) + q % 2
-
-  down : z < 2 * h → (q * (2 * h) + z) / (2 * h) ≡ q
-  down l = digits-div q l
-
-  up : 2 * h ≤ z → (q * (2 * h) + z) / (2 * h) ≡ suc q
-  up l = carries q (2 * h) z l top
-    where
-      top : r + (h - 1) + q % 2 < 2 * h + 2 * h
-      top = omega arith
-
-  below : r * 2 < 2 * h → (q * (2 * h) + z) / (2 * h) ≡ q
-  below l = down (omega arith)
-
-  above : 2 * h < r * 2 → (q * (2 * h) + z) / (2 * h) ≡ suc q
-  above l = up (omega arith)
-
-  tie : r * 2 ≡ 2 * h → (q * (2 * h) + z) / (2 * h) ≡ q + q % 2
-  tie e = go (q % 2) refl
-    where
-      even : q % 2 ≡ 0 → r + (h - 1) + q % 2 < 2 * h
-      even g = omega arith
-
-      odd : (k : ℕ) → q % 2 ≡ suc k → 2 * h ≤ r + (h - 1) + q % 2
-      odd k g = omega arith
-
-      one : (k : ℕ) → q % 2 ≡ suc k → suc q ≡ q + suc k
-      one k g = omega arith
-
-      go : (b : ℕ) → q % 2 ≡ b → (q * (2 * h) + z) / (2 * h) ≡ q + b
-      go zero g = down (even g) ∙ sym (add-zero q)
-      go (suc k) g = up (odd k g) ∙ one k g
-
-pub closest-added : (m h : ℕ) → 0 < h → (m + (h - 1) + m / (2 * h) % 2) / (2 * h) ≡ closest m (2 * h)
-closest-added m h H =
-    let q = m / (2 * h) in
-    let r = m % (2 * h) in
-    let R : r < 2 * h = mod-lt m (mul-pos (zero-lt-suc 1) H) in
-    let e : (m + (h - 1) + q % 2) / (2 * h) ≡ (q * (2 * h) + (r + (h - 1) + q % 2)) / (2 * h) =
-    ap (λ (x : ℕ). x / (2 * h)) (ap (λ (x : ℕ). x + (h - 1) + q % 2) (sym (div-add-mod' m (2 * h))) ∙ regroup (q * (2 * h)) r (h - 1) (q % 2)) in
-    closest-by m (2 * h) ((m + (h - 1) + q % 2) / (2 * h)) (λ l. e ∙ below q r h H R l) (λ l. e ∙ tie q r h H R l) (λ l. e ∙ above q r h H R l)
-  where
-    regroup : (a b c d : ℕ) → a + b + c + d ≡ a + (b + c + d)
-    regroup a b c d = omega arith
+closest-zero a b h = sym (nearest-none (λ _. a / b % 2) a b h) ∙ nearest-even a b
 
 -- ---- an even number of divisors more
 

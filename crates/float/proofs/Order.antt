@@ -1,11 +1,12 @@
 -- `<` puts the numbers among the floats in order, -0 and 0 at one place. Assumes nothing.
-use mathlib.Core.Bool.{Bool, true, false, true≢false, false≢true}
+use mathlib.Core.Bool.{Bool, true, false, _&&_, _||_, Bool·beq, and-eq-true-iff, true≢false, false≢true}
 use mathlib.Core.Path.{_≡_, refl, sym, _∙_}
 use Prim.Native.Nat.{ℕ, zero, suc, _+_, _*_, _≤_, _<_}
 use native.Mathlib.Nat.{le-refl, le-trans, le-of-lt, lt-of-lt-of-le, lt-irrefl, zero-lt-suc, zero-mul, mul-pos, mul-right-comm, mul-le-mul-right, le-of-mul-le-mul-right, mul-lt-mul-of-pos-right, lt-of-mul-lt-mul-right}
 use native.Mathlib.Omega.{arith}
-use borrow.Author.Tests.{ltb-true, ltb-false, lt-ltb, le-ltb}
-use lib.Ieee.{Float, nan, inf, fin, up, down, below, isNan, lt}
+use borrow.Author.Tests.{ltb-true, ltb-false, lt-ltb, le-ltb, eqb-true}
+use lib.Dec.{eqb}
+use lib.Ieee.{Float, nan, inf, fin, up, down, below, isNan, lt, eq, le}
 use lib.Ieee.Fits.{down-pos}
 
 -- ---- x / a, y / b and z / c, by their products across
@@ -136,3 +137,42 @@ lt-asym x y h = go (lt y x) refl
     go : (b : Bool) → lt y x ≡ b → b ≡ false
     go true k = sym (lt-trans x y x h k) ∙ lt-itself x
     go false k = refl
+
+-- equals, and what is at most another, are not above it
+
+pub eq-not-above : (x y : Float) → eq x y ≡ true → lt y x ≡ false
+unfolding eq lt
+eq-not-above nan y h = absurd (false≢true h)
+eq-not-above (inf s) nan h = absurd (false≢true h)
+eq-not-above (inf true) (inf t) h = and-false-right t
+  where
+    and-false-right : (t : Bool) → t && false ≡ false
+    and-false-right true = refl
+    and-false-right false = refl
+eq-not-above (inf false) (inf true) h = absurd (false≢true h)
+eq-not-above (inf false) (inf false) h = refl
+eq-not-above (inf s) (fin t n d) h = absurd (false≢true h)
+eq-not-above (fin s m e) nan h = absurd (false≢true h)
+eq-not-above (fin s m e) (inf t) h = absurd (false≢true h)
+eq-not-above (fin s m e) (fin t n d) h = go s t (and-eq-true-iff _ _ .0 h)
+  where
+    a : ℕ
+    a = m * up e * down d
+
+    b : ℕ
+    b = n * up d * down e
+
+    go : (s t : Bool) → (eqb a b ≡ true) × (Bool·beq s t || eqb a 0 ≡ true) → below t b s a ≡ false
+    go false false (h, k) = le-ltb b a (omega (arith, eqb-true a b h))
+    go true true (h, k) = le-ltb a b (omega (arith, eqb-true a b h))
+    go true false (h, k) = refl
+    go false true (h, k) = le-ltb 0 (b + a) (omega (arith, eqb-true a b h, eqb-true a 0 k))
+
+pub le-not-above : (x y : Float) → le x y ≡ true → lt y x ≡ false
+unfolding le
+le-not-above x y h = go (lt x y) (eq x y) (lt-asym x y) (eq-not-above x y) h
+  where
+    go : (p q : Bool) → (p ≡ true → lt y x ≡ false) → (q ≡ true → lt y x ≡ false) → p || q ≡ true → lt y x ≡ false
+    go true q f g h = f refl
+    go false true f g h = g refl
+    go false false f g h = absurd (false≢true h)

@@ -3,14 +3,18 @@
 ghost use mathlib.Core.Path.{_≡_};
 ghost use Prim.Native.Nat.{suc, _+_, _*_, _/_, _%_, _^_, _≤_, _<_};
 ghost use lib.Ieee.{binary32, prec, hid, ones, ofBits, toBits};
-ghost use lib.Ieee.Nearest.{closest};
 ghost use Rattle.float.specs.Basic.{absOf, maxOf, minOf};
-ghost use Rattle.float.specs.Narrow.{narrowOf, narrowRest, spare};
+ghost use Rattle.float.specs.Narrow.{narrowOf, narrowRest};
 ghost use Rattle.float.specs.Root.{isqrt, rootOfRaised, sqrtOf};
 
 mod guess;
+mod rounding;
 
 use guess::estimate;
+pub use rounding::Rounded;
+pub use rounding::Ties;
+pub use rounding::round_product;
+use rounding::shift_nearest;
 
 // The value with the bits b. Every pattern of a NaN gives a NaN.
 pub fn of_bits(b: u32) -> f32
@@ -111,19 +115,6 @@ fn narrow_rest(magnitude: u64) -> u64
         // an infinity
         _ => 0x7f80_0000,
     }
-}
-
-// m / 2^s to the nearest whole number, and at a tie to the even one. Half of 2^s is added before
-// the shift, less one unless the quotient is odd, so that a tie carries into an odd quotient only.
-fn shift_nearest(m: u64, s: u64) -> u64
-    requires { ⌜ m < 2 ^ spare ⌝ }
-    requires { ⌜ 1 ≤ s ⌝ }
-    requires { ⌜ s < spare ⌝ }
-    ensures { λ r. ⌜ r ≡ closest m (2 ^ s) ⌝ }
-{
-    let half = 1u64 << (s - 1);
-    let odd = (m >> s) % 2;
-    (m + (half - 1) + odd) >> s
 }
 
 // The square root of x, rounded to the nearest value. A zero gives itself, and what is below zero a

@@ -1,4 +1,4 @@
--- `float::shift_nearest` meets its contract. Assumes nothing.
+-- `float::rounding::shift_with_tie` meets its contract. Assumes nothing.
 use mathlib.Core.Path.{_≡_, sym, ap, _∙_, subst}
 use Prim.Native.Nat.{ℕ, _+_, _-_, _*_, _/_, _%_, _^_, _≤_, _<_}
 use native.Mathlib.Nat.{one-mul}
@@ -6,12 +6,12 @@ use native.Mathlib.Omega.{arith}
 use borrow.Author.Needs.{needs}
 use lib.Dec.{lit<}
 use lib.Pow.{pow-pos, pow-mono, shl-exact}
-use lib.Ieee.Nearest.{closest}
 use Rattle.float.specs.Narrow.{spare}
-use Rattle.float.proofs.Closest.{closest-added}
+use Rattle.float.specs.Whole.{nearestTo}
+use Rattle.float.proofs.Nearest.{nearest-added}
 use Rattle.float.proofs.Pattern.{twice}
-use Rattle.float.proofs.shift_nearest.Statement.{statement}
-use Rattle.float.proofs.shift_nearest.Tie as tie
+use Rattle.float.proofs.rounding.shift_with_tie.Statement.{statement}
+use Rattle.float.proofs.rounding.shift_with_tie.Tie as tie
 
 -- `1 << (s - 1)`, as the machine has it
 abbrev half : ℕ → ℕ
@@ -27,20 +27,21 @@ half-le : (s : ℕ) → s < spare → half s ≤ 2 ^ (spare - 1)
 half-le s h = subst (λ (x : ℕ). x ≤ 2 ^ (spare - 1)) (sym (half-is s h)) (pow-mono {i = s - 1} {j = spare - 1} (omega arith))
 
 sub-result : tie.Need-sub-result
-sub-result c = omega (arith, half-pos (c .args .s) (c .pre .1 .1))
+sub-result c = omega (arith, half-pos (c .args .s) (c .pre .1 .1 .0))
 
 add-result : tie.Need-add-result
-add-result c = omega (arith, half-le (c .args .s) (c .pre .1 .1))
+add-result c = omega (arith, half-le (c .args .s) (c .pre .1 .1 .0))
 
 add-result-2 : tie.Need-add-result-2
-add-result-2 c = omega (arith, half-le (c .args .s) (c .pre .1 .1))
+add-result-2 c = omega (arith, half-le (c .args .s) (c .pre .1 .1 .0))
 
 returns : tie.Need-returns
 returns c =
     let m = c .args .m in
     let s = c .args .s in
-    ap (λ (x : ℕ). (m + (x - 1) + m / 2 ^ s % 2) / 2 ^ s) (half-is s (c .pre .1 .1))
-    ∙ subst (λ (x : ℕ). (m + (2 ^ (s - 1) - 1) + m / x % 2) / x ≡ closest m x) (sym (twice s (c .pre .1 .0))) (closest-added m (2 ^ (s - 1)) (pow-pos (s - 1)))
+    let t = c .args .tie in
+    ap (λ (x : ℕ). (m + (x - 1) + t) / 2 ^ s) (half-is s (c .pre .1 .1 .0))
+    ∙ subst (λ (x : ℕ). (m + (2 ^ (s - 1) - 1) + t) / x ≡ nearestTo (λ _. t) m x) (sym (twice s (c .pre .1 .0))) (nearest-added t m (2 ^ (s - 1)) (c .pre .1 .1 .1) (pow-pos (s - 1)))
 
-pub shift-nearest-spec : {M : Type 1} → statement M
-shift-nearest-spec = tie.close (tie.spec (λ c. search needs) (λ c. search needs) (λ c. search needs) sub-result add-result add-result-2 (λ c. search needs) returns)
+pub shift-with-tie-spec : {M : Type 1} → statement M
+shift-with-tie-spec = tie.close (tie.spec (λ c. search needs) (λ c. search needs) sub-result add-result add-result-2 (λ c. search needs) returns)
