@@ -1,1 +1,3 @@
+pub mod AreaUnsigned
+pub mod PriceCorrect
 pub mod Union

@@ -1,3 +1,4 @@
 pub mod Answer
 pub mod Area
 pub mod Bound
+pub mod Price
