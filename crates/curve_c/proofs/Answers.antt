@@ -2,12 +2,16 @@
 use mathlib.Core.Bool.{Bool, true, false, cond}
 use mathlib.Core.List.{List}
 use mathlib.Core.Logic.{⊎-elim}
+use mathlib.Core.Option.{Option, none, some}
 use mathlib.Core.Path.{_≡_, refl, sym, ap, _∙_}
 use Prim.Native.Nat.{ℕ, zero, suc, _/_, _≤_}
 use native.Mathlib.Omega.{arith}
 use lib.Dec.{ltb, lit≤}
+use lib.IntN.{ℤ, natAbs}
 use lib.Ieee.{Float}
 use lib.ListN.{length}
+use Rattle.float.specs.declared.rounding.Ties.the-variants.{Up}
+use Rattle.float.specs.Whole.{wholeOf}
 use Rattle.geometry.specs.declared.bounds.Bounds3f.{Bounds3f}
 use Rattle.geometry.specs.declared.ray.Ray.{Ray}
 use Rattle.matrix.specs.declared.Matrix4x4.{Matrix4x4}
@@ -21,9 +25,11 @@ use Rattle.curve.specs.Curve.{curveRefusals}
 use Rattle.curve.specs.Layout.{curveFrom}
 use Rattle.measure.specs.Bound.{boundOf, objectBound, boundFrom, worldBoundOf, worldBoundRefusals, worldBound}
 use Rattle.measure.specs.Area.{areaOf, areaIn}
+use Rattle.measure.specs.Price.{mostCents, priced, priceOf, priceRefusals, priceIn}
 use Rattle.limits.specs.List.{over}
 use Rattle.measure.specs.declared.bound.Bound.the-variants as bound
 use Rattle.measure.specs.declared.areas.Measured.the-variants as measured
+use Rattle.measure.specs.declared.prices.Priced.the-variants as price
 use Rattle.create.specs.declared.create.Params.{Params}
 use Rattle.create.specs.declared.create.Created.the-variants as created
 use Rattle.intersect.specs.declared.Intersection.{Intersection}
@@ -43,7 +49,7 @@ use Rattle.sheet.specs.declared.Reply.{Reply}
 use Rattle.sheet.specs.declared.Reply.the-variants as reply
 use Rattle.sheet.specs.declared.Sheet.{Sheet}
 use Rattle.create.specs.Answer.{createdNumber}
-use Rattle.measure.specs.Answer.{boundNumber, areaNumber}
+use Rattle.measure.specs.Answer.{boundNumber, areaNumber, priceNumber}
 use Rattle.intersect.specs.Answer.{metNumber}
 use Rattle.sheet.specs.Answer.{replyNumber}
 use Rattle.curve_c.specs.Calls.{metBy, nearestBy}
@@ -74,6 +80,22 @@ world-bound-answers l m = go (firstOf (worldBoundRefusals l m)) (transformBounds
 pub area-answers : (l : List Float) → areaNumber (areaIn l) ≡ 0 → areaIn l ≡ measured.Area (areaOf (curveFrom l))
 unfolding areaIn
 area-answers l = told-answers areaNumber measured.Refused (λ k. refl) (firstOf (curveRefusals l)) (measured.Area (areaOf (curveFrom l)))
+
+pub price-answers : (l : List Float) (rate : ℕ) → priceNumber (priceIn l rate) ≡ 0 → (n : ℕ) × (priceIn l rate ≡ price.Cents n)
+unfolding priceIn priceOf
+price-answers l rate = go (firstOf (priceRefusals l rate)) (wholeOf Up rate (areaOf (curveFrom l)))
+  where
+    pick : (b : Bool) (n : ℕ) → priceNumber (cond b (price.Refused 21) (price.Cents n)) ≡ 0 → cond b (price.Refused 21) (price.Cents n) ≡ price.Cents n
+    pick true n e = absurd (omega (arith, e))
+    pick false n e = refl
+
+    answered : (o : Option ℤ) → priceNumber (priced o) ≡ 0 → (n : ℕ) × (priced o ≡ price.Cents n)
+    answered none e = absurd (omega (arith, e))
+    answered (some z) e = (natAbs z, pick (ltb mostCents (natAbs z)) (natAbs z) e)
+
+    go : (k : ℕ) (o : Option ℤ) → priceNumber (told price.Refused k (priced o)) ≡ 0 → (n : ℕ) × (told price.Refused k (priced o) ≡ price.Cents n)
+    go zero o e = answered o e
+    go (suc k) o e = absurd (omega (arith, e))
 
 -- ---- curve_intersect
 

@@ -9,9 +9,10 @@ use lib.ListN.{set}
 use lib.Ieee.{Float}
 use Rattle.create.specs.Answer.{createdCount}
 use Rattle.create.specs.declared.create.Created.{Created}
-use Rattle.measure.specs.Answer.{boundBox, areaValue}
+use Rattle.measure.specs.Answer.{boundBox, areaValue, priceCents}
 use Rattle.measure.specs.declared.bound.Bound.{Bound}
 use Rattle.measure.specs.declared.areas.Measured.{Measured}
+use Rattle.measure.specs.declared.prices.Priced.{Priced}
 use Rattle.intersect.specs.Answer.{metRecord, metCount}
 use Rattle.intersect.specs.declared.Intersection.{Intersection}
 use Rattle.nearest.specs.Answer.{nearestRecord, nearestCurve}
@@ -44,6 +45,11 @@ boundAfter a = written boundsFloats (boundBox a)
 
 abbrev pub areaAfter : Measured → Float → Float
 areaAfter a = written (λ x. x) (areaValue a)
+
+-- ---- curve_price
+
+abbrev pub centsAfter : Priced → ℕ → ℕ
+centsAfter a = written (λ n. n) (priceCents a)
 
 -- ---- curve_intersect
 

@@ -12,5 +12,6 @@ pub use rays::curve_intersect;
 pub use shapes::curve_area;
 pub use shapes::curve_create;
 pub use shapes::curve_object_bound;
+pub use shapes::curve_price;
 pub use shapes::curve_world_bound;
 pub use sheets::curve_sheet;

@@ -1,13 +1,14 @@
-// Curves into a list, their boxes and areas.
+// Curves into a list, their boxes, areas and prices.
 ghost use mathlib.Core.Path.{_≡_};
 ghost use lib.ListN.{length};
 ghost use Rattle.matrix.specs.Matrix.{matrixFrom};
 ghost use Rattle.create.specs.Create.{paramsOf, createdOf, listAfter};
 ghost use Rattle.measure.specs.Bound.{objectBound, worldBound};
 ghost use Rattle.measure.specs.Area.{areaIn};
+ghost use Rattle.measure.specs.Price.{priceIn};
 ghost use Rattle.create.specs.Answer.{createdNumber};
-ghost use Rattle.measure.specs.Answer.{boundNumber, areaNumber};
-ghost use Rattle.curve_c.specs.Calls.{piecesAfter, boundAfter, areaAfter};
+ghost use Rattle.measure.specs.Answer.{boundNumber, areaNumber, priceNumber};
+ghost use Rattle.curve_c.specs.Calls.{piecesAfter, boundAfter, areaAfter, centsAfter};
 use crate::floats::BOUNDS_FLOATS;
 use crate::floats::bounds_floats;
 use create::Created;
@@ -15,6 +16,7 @@ use matrix::MATRIX_FLOATS;
 use matrix::matrix_from;
 use measure::Bound;
 use measure::Measured;
+use measure::Priced;
 
 #[no_mangle]
 pub extern "C" fn curve_create(
@@ -89,5 +91,19 @@ pub extern "C" fn curve_area(piece: &[f32], out: &mut f32) -> u32
             0
         }
         Measured::Refused(number) => number as u32,
+    }
+}
+
+#[no_mangle]
+pub extern "C" fn curve_price(piece: &[f32], rate: u32, cents: &mut u32) -> u32
+    ensures { λ r. ⌜ r ≡ priceNumber (priceIn (now (piece .entry)) rate) ⌝ }
+    ensures { λ _. ⌜ now (cents .exit) ≡ centsAfter (priceIn (now (piece .entry)) rate) (now (cents .entry)) ⌝ }
+{
+    match measure::price(piece, rate) {
+        Priced::Cents(n) => {
+            *cents = n;
+            0
+        }
+        Priced::Refused(number) => number as u32,
     }
 }
