@@ -62,7 +62,9 @@ enum {
     CURVE_REFUSED_ZERO_NORMAL = 16,     /* the normal or the direction back has length zero at the hit */
     CURVE_REFUSED_WRONG_LINE = 17,      /* of a sheet, or a missing one: out[CURVE_SHEET_LINE] */
     CURVE_REFUSED_SHEET_TOO_LONG = 18,  /* over 65,536 bytes */
-    CURVE_REFUSED_LIST_LENGTH = 19      /* it is no whole number of pieces */
+    CURVE_REFUSED_LIST_LENGTH = 19,     /* it is no whole number of pieces */
+    CURVE_REFUSED_RATE = 20,            /* it is over CURVE_MOST_RATE */
+    CURVE_REFUSED_PRICE = 21            /* it is over CURVE_MOST_CENTS */
 };
 
 /* What curve_create takes. */
@@ -75,6 +77,12 @@ enum {
     CURVE_TYPE_CYLINDER = 2     /* refused */
 };
 
+/* The most that curve_price takes and answers. */
+enum {
+    CURVE_MOST_RATE = 1000000,      /* cents a square metre */
+    CURVE_MOST_CENTS = 1000000000
+};
+
 /*
  * How many bytes of stack are enough for a call, below its caller's frame. bindings/c/stack.c measures the calls: each
  * needs at least half of its figure.
@@ -84,6 +92,7 @@ enum {
     CURVE_STACK_OBJECT_BOUND = 256,
     CURVE_STACK_WORLD_BOUND = 512,
     CURVE_STACK_AREA = 384,
+    CURVE_STACK_PRICE = 384,
     CURVE_STACK_INTERSECT = 8192,
     CURVE_STACK_NEAREST = 8192,
     CURVE_STACK_SHEET = 40960
@@ -172,6 +181,13 @@ uint32_t curve_world_bound(const float *piece, size_t len, const float object_to
  * Answers 0, or 9.
  */
 uint32_t curve_area(const float *piece, size_t len, float *out);
+
+/*
+ * The price of a piece's area at `rate` cents a square metre: the exact value of curve_area's float times the rate,
+ * rounded once, to the nearest cent, a half upward. What is rounded to CURVE_MOST_CENTS passes.
+ * Answers 0 and sets *cents, or one of 9, 20, 21.
+ */
+uint32_t curve_price(const float *piece, size_t len, uint32_t rate, uint32_t *cents);
 
 /*
  * Where a ray meets a piece. reverse: whether normals turn; above 1 counts as 1. Answers

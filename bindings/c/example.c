@@ -1,5 +1,6 @@
 /*
- * A straight belt, a beam that meets it, one that misses it, two decks under a beam, and a belt that is refused.
+ * A straight belt and the price of its cover, a beam that meets it, one that misses it, two decks under a beam, and a
+ * belt that is refused.
  * `bindings/test` builds and runs this; what it prints is in `expected`.
  */
 #include <math.h>
@@ -18,6 +19,9 @@ static const float identity[CURVE_MATRIX_FLOATS] = {
 
 /* Four points. */
 enum { POINTS_FLOATS = 4 * 3 };
+
+/* What a square metre of cover costs, in cents. */
+enum { RATE = 1250 };
 
 /* From x = -3 to 3 at z = 4. */
 static const float straight[POINTS_FLOATS] = {-3, 0, 4, -1, 0, 4, 1, 0, 4, 3, 0, 4};
@@ -91,11 +95,14 @@ static void measure(const float piece[CURVE_FLOATS])
 {
     float bounds[CURVE_BOX_FLOATS];
     float area;
+    uint32_t cents;
 
     accepted("curve_object_bound", curve_object_bound(piece, CURVE_FLOATS, bounds));
     printf("box=%g,%g,%g to %g,%g,%g\n", bounds[0], bounds[1], bounds[2], bounds[3], bounds[4], bounds[5]);
     accepted("curve_area", curve_area(piece, CURVE_FLOATS, &area));
     printf("area=%g\n", area);
+    accepted("curve_price", curve_price(piece, CURVE_FLOATS, RATE, &cents));
+    printf("cents=%u\n", (unsigned)cents);
 }
 
 int main(void)

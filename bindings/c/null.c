@@ -36,7 +36,7 @@ int main(void)
     float list[CURVE_FLOATS];
     float bounds[CURVE_BOX_FLOATS], record[CURVE_RECORD_FLOATS], beams[CURVE_BEAMS_FLOATS];
     float area;
-    uint32_t pieces = 77, looked;
+    uint32_t pieces = 77, cents = 77, looked;
     size_t piece = 77;
     uint32_t out[CURVE_SHEET_NUMBERS];
 
@@ -52,6 +52,8 @@ int main(void)
     expect("curve_object_bound", curve_object_bound(NULL, 0, bounds), CURVE_REFUSED_CURVE);
     expect("curve_world_bound", curve_world_bound(NULL, 0, identity, bounds), CURVE_REFUSED_CURVE);
     expect("curve_area", curve_area(NULL, 0, &area), CURVE_REFUSED_CURVE);
+    expect("curve_price", curve_price(NULL, 0, 1, &cents), CURVE_REFUSED_CURVE);
+    expect("cents", cents, 77);
     expect("curve_intersect", curve_intersect(NULL, 0, identity, identity, 0, up, record, &looked),
            CURVE_REFUSED_CURVE);
 

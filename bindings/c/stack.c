@@ -14,7 +14,7 @@
 
 #include "curve.h"
 
-enum { STACK = 1 << 20, PAINT = 0xa5, CALLS = 7, MOST_POINTS_FLOATS = 256 * 3, MOST_BYTES = 65536 };
+enum { STACK = 1 << 20, PAINT = 0xa5, CALLS = 8, MOST_POINTS_FLOATS = 256 * 3, MOST_BYTES = 65536 };
 
 /* What the calls are measured on. All of it is outside the stack. */
 static unsigned char stack[STACK];
@@ -27,7 +27,7 @@ static char sheet[MOST_BYTES];
 static float bounds[CURVE_BOX_FLOATS];
 static float record[CURVE_RECORD_FLOATS];
 static float area;
-static uint32_t pieces, looked;
+static uint32_t cents, pieces, looked;
 static size_t piece;
 static uint32_t said[CURVE_SHEET_NUMBERS];
 
@@ -49,6 +49,7 @@ static struct need needs[CALLS] = {
     {"curve_object_bound", CURVE_STACK_OBJECT_BOUND, 0},
     {"curve_world_bound", CURVE_STACK_WORLD_BOUND, 0},
     {"curve_area", CURVE_STACK_AREA, 0},
+    {"curve_price", CURVE_STACK_PRICE, 0},
     {"curve_intersect", CURVE_STACK_INTERSECT, 0},
     {"curve_nearest", CURVE_STACK_NEAREST, 0},
     {"curve_sheet", CURVE_STACK_SHEET, 0},
@@ -103,26 +104,27 @@ static void *measure(void *unused)
     MEASURE(1, curve_object_bound(swinging, CURVE_FLOATS, bounds), CURVE_DONE);
     MEASURE(2, curve_world_bound(swinging, CURVE_FLOATS, mirror, bounds), CURVE_DONE);
     MEASURE(3, curve_area(swinging, CURVE_FLOATS, &area), CURVE_DONE);
+    MEASURE(4, curve_price(swinging, CURVE_FLOATS, CURVE_MOST_RATE, &cents), CURVE_DONE);
 
     /* Down to the last halves: a hit, with normals turned and not, and a miss. */
-    MEASURE(4, curve_intersect(swinging, CURVE_FLOATS, mirror, mirror, 0, up, record, &looked), CURVE_HIT);
+    MEASURE(5, curve_intersect(swinging, CURVE_FLOATS, mirror, mirror, 0, up, record, &looked), CURVE_HIT);
     expect(10 < looked, "ten times cut in two");
-    MEASURE(4, curve_intersect(swinging, CURVE_FLOATS, mirror, mirror, 1, up, record, &looked), CURVE_HIT);
-    MEASURE(4, curve_intersect(swinging, CURVE_FLOATS, mirror, mirror, 0, aside, record, &looked), CURVE_MISS);
+    MEASURE(5, curve_intersect(swinging, CURVE_FLOATS, mirror, mirror, 1, up, record, &looked), CURVE_HIT);
+    MEASURE(5, curve_intersect(swinging, CURVE_FLOATS, mirror, mirror, 0, aside, record, &looked), CURVE_MISS);
 
     /* The same over a list of two, and over one that is too short for two. */
-    MEASURE(5, curve_nearest(two, 2 * CURVE_FLOATS, mirror, mirror, 0, up, record, &piece), CURVE_HIT);
+    MEASURE(6, curve_nearest(two, 2 * CURVE_FLOATS, mirror, mirror, 0, up, record, &piece), CURVE_HIT);
     expect(piece == 0, "the first of two as near");
-    MEASURE(5, curve_nearest(two, 2 * CURVE_FLOATS, mirror, mirror, 1, up, record, &piece), CURVE_HIT);
-    MEASURE(5, curve_nearest(two, 2 * CURVE_FLOATS, mirror, mirror, 0, aside, record, &piece), CURVE_MISS);
-    MEASURE(5, curve_nearest(two, 2 * CURVE_FLOATS - 1, mirror, mirror, 0, up, record, &piece),
+    MEASURE(6, curve_nearest(two, 2 * CURVE_FLOATS, mirror, mirror, 1, up, record, &piece), CURVE_HIT);
+    MEASURE(6, curve_nearest(two, 2 * CURVE_FLOATS, mirror, mirror, 0, aside, record, &piece), CURVE_MISS);
+    MEASURE(6, curve_nearest(two, 2 * CURVE_FLOATS - 1, mirror, mirror, 0, up, record, &piece),
             CURVE_REFUSED_LIST_LENGTH);
 
     /* A long sheet with every kind of line, and the same with a wrong last line. */
-    MEASURE(6, curve_sheet((const uint8_t *)sheet, strlen(sheet), list, sizeof list / sizeof *list, beams, said),
+    MEASURE(7, curve_sheet((const uint8_t *)sheet, strlen(sheet), list, sizeof list / sizeof *list, beams, said),
             CURVE_DONE);
     expect(said[CURVE_SHEET_BEAMS] == CURVE_MOST_BEAMS, "64 beams");
-    MEASURE(6, curve_sheet((const uint8_t *)sheet, strlen(sheet) - 1, list, sizeof list / sizeof *list, beams, said),
+    MEASURE(7, curve_sheet((const uint8_t *)sheet, strlen(sheet) - 1, list, sizeof list / sizeof *list, beams, said),
             CURVE_REFUSED_WRONG_LINE);
     return NULL;
 }

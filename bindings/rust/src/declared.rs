@@ -27,6 +27,7 @@ extern "C" {
         out: *mut [f32; BOX_FLOATS],
     ) -> u32;
     pub fn curve_area(piece: *const f32, len: usize, out: *mut f32) -> u32;
+    pub fn curve_price(piece: *const f32, len: usize, rate: u32, cents: *mut u32) -> u32;
     pub fn curve_intersect(
         piece: *const f32,
         len: usize,

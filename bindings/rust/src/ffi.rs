@@ -59,6 +59,15 @@ pub fn area(curve: &[f32]) -> (u32, f32) {
     (number, out)
 }
 
+/// The cents go with 0.
+pub fn price(curve: &[f32], rate: u32) -> (u32, u32) {
+    let mut cents = 0;
+    // SAFETY: `curve` goes with its own length, and `cents` is new.
+    let number = unsafe { curve_price(curve.as_ptr(), curve.len(), rate, &mut cents) };
+
+    (number, cents)
+}
+
 /// The record goes with 0, the count with 0 and 1.
 pub fn intersect(
     curve: &[f32],
@@ -132,4 +141,25 @@ pub fn sheet(bytes: &[u8], list: &mut [f32]) -> (u32, [f32; BEAMS_FLOATS], [u32;
     };
 
     (number, beams, out)
+}
+
+#[cfg(test)]
+mod tests {
+    use super::curve_price;
+    use crate::MOST_RATE;
+
+    /// Asked of the library itself, since the wrapper hands on no cents with a refusal.
+    #[test]
+    fn a_refused_price_leaves_the_cents() {
+        let curve = [
+            0.0, 0.0, 0.0, 2e3, 0.0, 0.0, 2e3, 0.0, 0.0, 2e3, 0.0, 0.0, // four points
+            1.0, 1.0, 0.0, 1.0, // two widths, umin and umax
+        ];
+        for (len, rate, refusal) in [(15, 1, 9), (16, MOST_RATE + 1, 20), (16, MOST_RATE, 21)] {
+            let mut cents = 77;
+            // SAFETY: `curve` has at least that length, and `cents` is new.
+            let number = unsafe { curve_price(curve.as_ptr(), len, rate, &mut cents) };
+            assert_eq!((number, cents), (refusal, 77));
+        }
+    }
 }

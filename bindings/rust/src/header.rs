@@ -48,6 +48,8 @@ fn places() -> Vec<(&'static str, usize)> {
     vec![
         ("MOST_PIECES", MOST_CURVES),
         ("MOST_BEAMS", MOST_BEAMS),
+        ("MOST_RATE", MOST_RATE as usize),
+        ("MOST_CENTS", MOST_CENTS as usize),
         ("POINTS", POINTS.start),
         ("WIDTH0", WIDTH0),
         ("WIDTH1", WIDTH1),

@@ -1,5 +1,5 @@
-//! How long the library's arrays are, and where each number stands in them, as include/curve.h has it. For Rust
-//! this is said here alone: `oracle/` and `bench/` use this file too.
+//! How long the library's arrays are, where each number stands in them, and what a price is at most, as
+//! include/curve.h has it. For Rust this is said here alone: `oracle/` and `bench/` use this file too.
 
 use std::ops::Range;
 
@@ -8,6 +8,12 @@ pub const MOST_CURVES: usize = 1024;
 
 /// The beams that a sheet has at most.
 pub const MOST_BEAMS: usize = 64;
+
+/// The rate that a price takes at most, in cents a square metre.
+pub const MOST_RATE: u32 = 1_000_000;
+
+/// The cents that a price has at most.
+pub const MOST_CENTS: u32 = 1_000_000_000;
 
 // A curve.
 

@@ -64,7 +64,10 @@ mod refusal;
 use layout::*;
 use std::ops::Range;
 
-pub use layout::{CURVE_FLOATS, MOST_BEAMS, MOST_CURVES, POINTS, UMAX, UMIN, WIDTH0, WIDTH1};
+pub use layout::{
+    CURVE_FLOATS, MOST_BEAMS, MOST_CENTS, MOST_CURVES, MOST_RATE, POINTS, UMAX, UMIN, WIDTH0,
+    WIDTH1,
+};
 pub use refusal::{Refusal, SheetRefusal};
 
 /// A matrix, by rows.
@@ -240,6 +243,31 @@ pub fn area(curve: &[f32]) -> Result<f32, Refusal> {
     accepted(number, area)
 }
 
+/// The price of a curve's area in cents, at `rate` cents a square metre: the exact value of [`area`] times the rate,
+/// rounded once, to the nearest cent, a half upward. What is rounded to [`MOST_CENTS`] passes.
+///
+/// # Errors
+///
+/// [`Refusal::Curve`], [`Refusal::Rate`], or [`Refusal::Price`].
+///
+/// # Example
+///
+/// A straight belt, 6 metres long and 1 wide:
+///
+/// ```
+/// let belt = [
+///     -3.0, 0.0, 4.0, -1.0, 0.0, 4.0, 1.0, 0.0, 4.0, 3.0, 0.0, 4.0, // four points
+///     1.0, 1.0, 0.0, 1.0, // two widths, umin and umax
+/// ];
+/// assert_eq!(curve::price(&belt, 1250)?, 7500);
+/// # Ok::<(), curve::Refusal>(())
+/// ```
+pub fn price(curve: &[f32], rate: u32) -> Result<u32, Refusal> {
+    let (number, cents) = ffi::price(curve, rate);
+
+    accepted(number, cents)
+}
+
 /// Where a ray meets a curve. `reverse` says whether normals turn.
 ///
 /// # Errors
@@ -349,7 +377,7 @@ fn accepted<T>(number: u32, value: T) -> Result<T, Refusal> {
 }
 
 fn refused(number: u32) -> Refusal {
-    Refusal::from_number(number).expect("the library answers 0 to 19")
+    Refusal::from_number(number).expect("the library answers 0 to 21")
 }
 
 /// The three floats at a place.

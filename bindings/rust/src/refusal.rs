@@ -46,10 +46,14 @@ pub enum Refusal {
     SheetTooLong = 18,
     /// 19: the length of the list is no whole number of curves.
     ListLength = 19,
+    /// 20: the rate is over [`MOST_RATE`](crate::MOST_RATE).
+    Rate = 20,
+    /// 21: the price is over [`MOST_CENTS`](crate::MOST_CENTS).
+    Price = 21,
 }
 
 /// By number, from 1.
-const ALL: [Refusal; 19] = [
+const ALL: [Refusal; 21] = [
     Refusal::Degree,
     Refusal::Basis,
     Refusal::PointCount,
@@ -69,10 +73,12 @@ const ALL: [Refusal; 19] = [
     Refusal::WrongLine,
     Refusal::SheetTooLong,
     Refusal::ListLength,
+    Refusal::Rate,
+    Refusal::Price,
 ];
 
 impl Refusal {
-    /// The number of the refusal, from 1 to 19.
+    /// The number of the refusal, from 1 to 21.
     pub fn number(self) -> u32 {
         self as u32
     }
@@ -113,6 +119,8 @@ impl fmt::Display for Refusal {
             Refusal::WrongLine => "a line of the sheet is wrong or missing",
             Refusal::SheetTooLong => "the sheet has over 65,536 bytes",
             Refusal::ListLength => "the length of the list is no whole number of curves",
+            Refusal::Rate => "the rate is over 1,000,000 cents a square metre",
+            Refusal::Price => "the price is over 1,000,000,000 cents",
         })
     }
 }

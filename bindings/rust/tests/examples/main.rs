@@ -5,5 +5,6 @@ mod boxes;
 mod common;
 mod laying;
 mod nearest;
+mod price;
 mod refusal;
 mod sheet;
