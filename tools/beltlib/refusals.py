@@ -20,6 +20,8 @@ REASONS = {
     17: "a line of the sheet is wrong",
     18: "the sheet has over 65,536 bytes",
     19: "the list is no whole number of pieces",
+    20: "the rate is over 1,000,000 cents a square metre",
+    21: "the price is over 1,000,000,000 cents",
 }
 
 # Which of them are told of a beam, and which of a whole sheet; one of these comes with a line.

@@ -66,8 +66,8 @@ beam 0: 1 hit, 0 misses
         self.assertIn("hit     inf  nan  nan\n", table("pieces=1\n" + line))
 
     def test_every_refusal_has_its_reason(self) -> None:
-        self.assertEqual(sorted(REASONS), list(range(1, 20)))
-        self.assertEqual(len(set(REASONS.values())), 19)
+        self.assertEqual(sorted(REASONS), list(range(1, 22)))
+        self.assertEqual(len(set(REASONS.values())), 21)
 
 
 class RefusedSheets(unittest.TestCase):
@@ -112,13 +112,14 @@ class BadReports(unittest.TestCase):
         self.refuse("pieces=1\n" + HIT.replace("u=3f0", "u=400"), "in:2: expected u from 0 to 1")
 
     def test_refusals_that_beltbeam_does_not_print(self) -> None:
-        self.refuse("refused=19 line=0\n", "in:1: expected a refusal of a sheet, found 19")
-        self.refuse("refused=15 line=0\n", "in:1: expected a refusal of a sheet, found 15")
+        for number in (15, 19, 20, 21):
+            message = f"in:1: expected a refusal of a sheet, found {number}"
+            self.refuse(f"refused={number} line=0\n", message)
         self.refuse("refused=5 line=3\n", "in:1: expected a line with refusal 17 alone")
         self.refuse("refused=17 line=0\n", "in:1: expected a line with refusal 17 alone")
-        self.refuse("pieces=1\nbeam=0 piece=0 refused=99\n", "in:2: expected a refusal of a beam")
-        self.refuse("pieces=1\nbeam=0 piece=0 refused=17\n", "in:2: expected a refusal of a beam")
-        self.refuse("pieces=1\nbeam=0 piece=0 refused=19\n", "in:2: expected a refusal of a beam")
+        for number in (17, 19, 20, 21, 99):
+            report = f"pieces=1\nbeam=0 piece=0 refused={number}\n"
+            self.refuse(report, "in:2: expected a refusal of a beam")
 
     def test_not_whole_or_not_in_order(self) -> None:
         self.refuse("pieces=2\n" + HIT, "in:3: the report ends here, expected beam=0 piece=1")
