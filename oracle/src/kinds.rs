@@ -4,9 +4,12 @@ use crate::limits::{self, ShapeParams};
 use crate::nearest::{self, ListBeam};
 use crate::params;
 use crate::piece::{self, Piece};
+use crate::products::{self, Ties};
 use crate::rng::Rng;
 use crate::words::{put, put_bounds, put_matrix, put_point, put_vector, Reader, Words};
-use crate::{beam, beam_inputs, corner_inputs, corners, curve_inputs, inputs, nearest_inputs};
+use crate::{
+    beam, beam_inputs, corner_inputs, corners, curve_inputs, inputs, nearest_inputs, product_inputs,
+};
 use pbrt::core::geometry::ray::Ray;
 use pbrt::core::geometry::vector::{vec3_coordinate_system, Vector3f};
 use pbrt::core::shape::{Shape, Shapes};
@@ -41,9 +44,18 @@ const fn kind(
 /// 01's refusal where the Rust panics on the weight of a corner.
 const ZERO_WEIGHT: u32 = 12;
 
+/// The status of a product that a u32 does not hold.
+const BEYOND: u32 = 1;
+
 pub const KINDS: &[Kind] = &[
     kind("sqrt", "x -> root", inputs::sqrt, sqrt),
     kind("narrow", "x(f64: 2) -> x", inputs::narrow, narrow),
+    kind(
+        "round_product",
+        "x k ties -> status [size]",
+        product_inputs::round_product,
+        round_product,
+    ),
     kind("cross", "a(3) b(3) -> 3", inputs::cross, cross),
     kind("normalize", "v(3) -> 3", inputs::normalize, normalize),
     kind("inverse", "m(16) -> 16", inputs::inverse, inverse),
@@ -91,6 +103,12 @@ pub const KINDS: &[Kind] = &[
     ),
     kind("area", "piece -> status [area]", curve_inputs::piece, area),
     kind(
+        "price",
+        "piece rate -> status [cents]",
+        product_inputs::price,
+        price,
+    ),
+    kind(
         "object_bound",
         "piece -> status [p_min(3) p_max(3)]",
         curve_inputs::piece,
@@ -135,6 +153,14 @@ fn sqrt(line: &mut Reader, answer: &mut Words) {
 
 fn narrow(line: &mut Reader, answer: &mut Words) {
     put(answer, &[line.double() as f32]);
+}
+
+fn round_product(line: &mut Reader, answer: &mut Words) {
+    let x = line.float();
+    let k = line.word();
+    let ties = [Ties::Up, Ties::Even][line.word() as usize];
+    let size = products::size(x, k, ties).ok_or(BEYOND);
+    put_reply(answer, size, |words, size| words.push(size));
 }
 
 fn cross(line: &mut Reader, answer: &mut Words) {
@@ -212,9 +238,22 @@ fn transform(line: &mut Reader) -> Transform {
 }
 
 fn area(line: &mut Reader, answer: &mut Words) {
-    let piece = line.floats();
-    let area = limits::piece(&piece).map(|()| curve_of(&piece, Transform::default()).area());
+    let area = area_of(&line.floats());
     put_reply(answer, area, |words, area| put(words, &[area]));
+}
+
+fn price(line: &mut Reader, answer: &mut Words) {
+    let area = area_of(&line.floats());
+    let rate = line.word();
+    let cents = area.and_then(|area| products::price(area, rate));
+    put_reply(answer, cents, |words, cents| words.push(cents));
+}
+
+/// The Rust's, where 01's limits let it.
+fn area_of(piece: &Piece) -> Result<f32, u32> {
+    limits::piece(piece)?;
+
+    Ok(curve_of(piece, Transform::default()).area())
 }
 
 fn object_bound(line: &mut Reader, answer: &mut Words) {

@@ -17,6 +17,8 @@ pub mod nearest_inputs;
 pub mod panics;
 pub mod params;
 pub mod piece;
+pub mod product_inputs;
+pub mod products;
 pub mod record;
 pub mod rng;
 pub mod shares;

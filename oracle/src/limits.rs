@@ -1,4 +1,4 @@
-//! 01's refusals 1 to 11 and 02's 19, which the supplied Rust has not, or not in this order: a second reading
+//! 01's refusals 1 to 11 and 02's 19 to 21, which the supplied Rust has not, or not in this order: a second reading
 //! of the papers, independent of the library's. Each function tells the first refusal that holds.
 
 use crate::layout::{CURVE_FLOATS, POINTS, RAY_FLOATS, RAY_T_MAX, UMAX, UMIN, WIDTH0, WIDTH1};
@@ -98,5 +98,23 @@ pub fn ray(ray: &[f32; RAY_FLOATS]) -> Result<(), u32> {
         Ok(())
     } else {
         Err(11)
+    }
+}
+
+/// Refusal 20.
+pub fn rate(rate: u32) -> Result<(), u32> {
+    if rate <= 1_000_000 {
+        Ok(())
+    } else {
+        Err(20)
+    }
+}
+
+/// Refusal 21, of the rounded price.
+pub fn cents(cents: i128) -> Result<(), u32> {
+    if cents <= 1_000_000_000 {
+        Ok(())
+    } else {
+        Err(21)
     }
 }

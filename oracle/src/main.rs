@@ -46,9 +46,9 @@ fn usage() -> String {
          oracle sheet_shares SEED N    what the belt sheets reach, as shares of N sheets\n\
          \n\
          Words of eight hexadecimal digits; a NaN is 7fc00000. A line without an answer is one on which\n\
-         the Rust panics because a length or a weight is zero. A status is 0, or 1 for a miss, or the\n\
-         number of 01's or 02's refusal, behind which nothing follows. A piece is {CURVE_FLOATS} words, in the order of\n\
-         bindings/rust/src/layout.rs.\n\n"
+         the Rust panics because a length or a weight is zero. A status is 0, or 1 for a miss or a product that\n\
+         a u32 does not hold, or the number of 01's or 02's refusal, behind which nothing follows. A piece is\n\
+         {CURVE_FLOATS} words, in the order of bindings/rust/src/layout.rs.\n\n"
     );
     for kind in KINDS {
         text += &format!("{:20} {}\n", kind.name, kind.layout);

@@ -59,6 +59,11 @@ pub fn area(piece: &[f32], out: &mut Output) -> u32 {
     unsafe { curve_area(piece.as_ptr(), piece.len(), out.as_mut_ptr().cast()) }
 }
 
+pub fn price(piece: &[f32], rate: u32, cents: &mut Output) -> u32 {
+    let [cents] = cents.array();
+    unsafe { curve_price(piece.as_ptr(), piece.len(), rate, cents) }
+}
+
 pub fn intersect(
     piece: &[f32],
     cast: &Cast,

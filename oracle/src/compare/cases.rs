@@ -294,6 +294,39 @@ impl Case for Area {
     }
 }
 
+pub struct Price(PieceLine);
+
+impl Case for Price {
+    const NAME: &'static str = "price";
+
+    fn new(rng: &mut Rng, call: &mut Rng) -> Price {
+        Price(PieceLine::new::<Self>(rng, call))
+    }
+
+    fn inputs(&self) -> Vec<(&'static str, String)> {
+        vec![self.0.piece_input(), ("rate", self.rate().to_string())]
+    }
+
+    fn rust(&self) -> Answer {
+        self.0.answer_in(Output::new("cents", 1))
+    }
+
+    fn library(&self) -> Answer {
+        let mut cents = Output::new("cents", 1);
+
+        Answer {
+            number: calls::price(&self.0.piece(), self.rate(), &mut cents),
+            outputs: vec![cents],
+        }
+    }
+}
+
+impl Price {
+    fn rate(&self) -> u32 {
+        self.0.behind_piece().word()
+    }
+}
+
 /// A reverse flag above 1 counts as 1.
 fn reverse_flag(call: &mut Rng, reverse: bool) -> u32 {
     if reverse {

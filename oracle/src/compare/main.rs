@@ -22,6 +22,7 @@ fn main() {
         Tally::of::<cases::ObjectBound>(seed, n),
         Tally::of::<cases::WorldBound>(seed, n),
         Tally::of::<cases::Area>(seed, n),
+        Tally::of::<cases::Price>(seed, n),
         Tally::of::<cases::Intersect>(seed, n),
         Tally::of::<cases::Nearest>(seed, n),
         Tally::of::<cases::Sheet>(seed, n),
