@@ -1,4 +1,4 @@
-// The library's answers of curves, area and boxes, and of any four points, their corners. Each function answers how many
+// The library's answers of curves, area, price and boxes, and of any four points, their corners. Each function answers how many
 // words it put.
 use crate::places::CURVE;
 use crate::places::CURVE_END;
@@ -6,6 +6,7 @@ use crate::places::P0;
 use crate::places::P1;
 use crate::places::P2;
 use crate::places::P3;
+use crate::places::RATE;
 use crate::put::DONE;
 use crate::put::put_bounds;
 use crate::put::put_status;
@@ -13,10 +14,13 @@ use bezier::Cubic;
 use geometry::point_from;
 use lines::Floats;
 use lines::Out;
+use lines::Words;
 use lines::put_floats;
+use lines::put_word;
 use matrix::matrix_from;
 use measure::Bound;
 use measure::Measured;
+use measure::Priced;
 
 // The curve that a line starts with. The part is taken of a slice: a part of a lent array would want a proof by hand.
 pub fn curve_in<'a>(floats: &'a Floats) -> &'a [f32] {
@@ -44,6 +48,16 @@ pub fn area(floats: &Floats, out: &mut Out) -> usize {
             put_floats(out, at, &[a])
         }
         Measured::Refused(number) => put_status(out, number),
+    }
+}
+
+pub fn price(words: &Words, floats: &Floats, out: &mut Out) -> usize {
+    match measure::price(curve_in(floats), words[RATE]) {
+        Priced::Cents(n) => {
+            let at = put_status(out, DONE);
+            put_word(out, at, n)
+        }
+        Priced::Refused(number) => put_status(out, number),
     }
 }
 

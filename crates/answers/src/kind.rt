@@ -2,6 +2,7 @@
 pub enum Kind {
     Sqrt,
     Narrow,
+    RoundProduct,
     Cross,
     Normalize,
     CoordinateSystem,
@@ -13,6 +14,7 @@ pub enum Kind {
     LookAt,
     Corners,
     Area,
+    Price,
     ObjectBound,
     WorldBound,
     CreateCurveShape,

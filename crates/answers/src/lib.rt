@@ -21,6 +21,7 @@ pub fn answer(kind: Kind, words: &Words, floats: &Floats, out: &mut Out) -> usiz
     match kind {
         Kind::Sqrt => geometry_kinds::sqrt(floats, out),
         Kind::Narrow => geometry_kinds::narrow(words, out),
+        Kind::RoundProduct => geometry_kinds::round_product(words, floats, out),
         Kind::Cross => geometry_kinds::cross(floats, out),
         Kind::Normalize => geometry_kinds::normalize(floats, out),
         Kind::CoordinateSystem => geometry_kinds::coordinate_system(floats, out),
@@ -32,6 +33,7 @@ pub fn answer(kind: Kind, words: &Words, floats: &Floats, out: &mut Out) -> usiz
         Kind::LookAt => transform_kinds::look_at(floats, out),
         Kind::Corners => curve_kinds::corners(floats, out),
         Kind::Area => curve_kinds::area(floats, out),
+        Kind::Price => curve_kinds::price(words, floats, out),
         Kind::ObjectBound => curve_kinds::object_bound(floats, out),
         Kind::WorldBound => curve_kinds::world_bound(floats, out),
         Kind::CreateCurveShape => create_kind::create_curve_shape(words, floats, out),

@@ -7,10 +7,16 @@ use lines::LINE_WORDS;
 use lines::Words;
 use matrix::MATRIX_FLOATS;
 
-// sqrt: a float.
+// sqrt: a float; round_product: with a whole number behind, and whether an exact half goes to the even one.
 pub const X: usize = 0;
 
 const X_END: usize = X + 1;
+
+pub const FACTOR: usize = X_END;
+
+pub const TIES_EVEN: usize = FACTOR + 1;
+
+const TIES_EVEN_END: usize = TIES_EVEN + 1;
 
 // narrow: the two halves of an f64.
 pub const HIGH: usize = 0;
@@ -74,10 +80,14 @@ pub const RAY: usize = REVERSE + 1;
 
 const CAST_WORDS: usize = RAY + RAY_FLOATS;
 
-// What has a curve: it alone, with a matrix behind, or with a cast.
+// What has a curve: it alone, with a rate, a matrix or a cast behind.
 pub const CURVE: usize = 0;
 
 pub const CURVE_END: usize = CURVE + FLOATS;
+
+pub const RATE: usize = CURVE_END;
+
+const RATE_END: usize = RATE + 1;
 
 const CURVE_MATRIX_END: usize = CURVE_END + MATRIX_FLOATS;
 
@@ -129,6 +139,7 @@ pub fn input_words(kind: Kind, words: &Words) -> usize {
     match kind {
         Kind::Sqrt => X_END,
         Kind::Narrow => LOW_END,
+        Kind::RoundProduct => TIES_EVEN_END,
         Kind::Cross => V2_END,
         Kind::Normalize | Kind::CoordinateSystem => V2,
         Kind::Inverse | Kind::SwapsHandedness => MATRIX_FLOATS,
@@ -138,6 +149,7 @@ pub fn input_words(kind: Kind, words: &Words) -> usize {
         Kind::LookAt => UP_END,
         Kind::Corners => P3_END,
         Kind::Area | Kind::ObjectBound => CURVE_END,
+        Kind::Price => RATE_END,
         Kind::WorldBound => CURVE_MATRIX_END,
         Kind::CreateCurveShape => points_end(words[POINTS_LEN]),
         Kind::Intersect => CURVE_CAST_END,

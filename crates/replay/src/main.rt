@@ -71,6 +71,7 @@ fn replay(kind: Kind, path: &[u8]) {
 fn main() {
     replay(Kind::Sqrt, b"sqrt.txt");
     replay(Kind::Narrow, b"narrow.txt");
+    replay(Kind::RoundProduct, b"round_product.txt");
     replay(Kind::Cross, b"cross.txt");
     replay(Kind::Normalize, b"normalize.txt");
     replay(Kind::CoordinateSystem, b"coordinate_system.txt");
@@ -82,6 +83,7 @@ fn main() {
     replay(Kind::LookAt, b"look_at.txt");
     replay(Kind::Corners, b"corners.txt");
     replay(Kind::Area, b"area.txt");
+    replay(Kind::Price, b"price.txt");
     replay(Kind::ObjectBound, b"object_bound.txt");
     replay(Kind::WorldBound, b"world_bound.txt");
     replay(Kind::CreateCurveShape, b"create_curve_shape.txt");
