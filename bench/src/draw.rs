@@ -3,7 +3,7 @@
 //! point of the belt or beside it, and a row keeps the first beams that ours answers as the row wants it.
 
 use crate::cubic;
-use crate::layout::{MATRIX_FLOATS, RAY_FLOATS, UMAX, UMIN};
+use crate::layout::{MATRIX_FLOATS, MOST_RATE, RAY_FLOATS, UMAX, UMIN};
 use crate::ours::{self, Answer, List};
 use crate::piece::{self, Piece};
 use crate::vector::{cross, difference, length, normal, scaled, sum, Vector};
@@ -162,6 +162,14 @@ fn hall(rng: &mut Rng) -> Hall {
 pub fn pieces() -> Vec<(Piece, Arc<Place>)> {
     let mut rng = Rng(5);
     let mut one = || (bent(&mut rng), Arc::new(place(&mut rng)));
+
+    (0..BEAMS).map(|_| one()).collect()
+}
+
+/// A rate for each of the pieces.
+pub fn rates() -> Vec<u32> {
+    let mut rng = Rng(10);
+    let mut one = || rng.below(u64::from(MOST_RATE) + 1) as u32;
 
     (0..BEAMS).map(|_| one()).collect()
 }

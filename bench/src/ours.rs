@@ -117,6 +117,10 @@ pub fn area(piece: &Piece, out: &mut f32) -> u32 {
     unsafe { curve_area(piece.as_ptr(), piece.len(), out) }
 }
 
+pub fn price(piece: &Piece, rate: u32, cents: &mut u32) -> u32 {
+    unsafe { curve_price(piece.as_ptr(), piece.len(), rate, cents) }
+}
+
 pub fn time_beams(beams: &[Beam], times: u32) -> Duration {
     let mut answer = Answer::default();
     let start = Instant::now();

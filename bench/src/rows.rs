@@ -53,9 +53,9 @@ const SHEET: Unit = Unit {
     thing: "sheet",
 };
 
-pub const NAMES: [&str; 12] = [
+pub const NAMES: [&str; 13] = [
     "thrown", "miss", "hit", "deep", "mix", "nearest", "segment", "spline", "box", "hall", "area",
-    "sheet",
+    "price", "sheet",
 ];
 
 pub fn row(target: &Path, name: &str) -> Option<Row> {
@@ -71,6 +71,7 @@ pub fn row(target: &Path, name: &str) -> Option<Row> {
         "box" => boxes(),
         "hall" => hall_boxes(),
         "area" => areas(),
+        "price" => prices(),
         "sheet" => sheets(target),
         _ => return None,
     })
@@ -191,15 +192,22 @@ fn laying(title: &'static str, belts: Vec<Belt>) -> Row {
 
 type Placed = (Piece, Arc<Place>);
 
-/// A call that takes a piece, and the Rust's method.
-fn measured<T: Default + 'static, U: 'static>(
-    title: &'static str,
-    ours: fn(&Placed, &mut T) -> u32,
-    rust: fn(&Shapes) -> U,
-    same: fn(T, U) -> bool,
-) -> Row {
+/// What the rows below measure, for ours and for the Rust.
+fn pieces() -> (Vec<Placed>, Vec<Arc<Shapes>>) {
     let pieces = draw::pieces();
     let shapes = rust::shapes(&pieces);
+
+    (pieces, shapes)
+}
+
+/// A call that takes a piece, and the Rust's method.
+fn measured<P: 'static, S: 'static, T: Default + 'static, U: 'static>(
+    title: &'static str,
+    (pieces, shapes): (Vec<P>, Vec<S>),
+    ours: fn(&P, &mut T) -> u32,
+    rust: fn(&S) -> U,
+    same: fn(T, U) -> bool,
+) -> Row {
     for (piece, shape) in pieces.iter().zip(&shapes) {
         let mut out = T::default();
         assert_eq!(ours(piece, &mut out), 0);
@@ -218,6 +226,7 @@ fn measured<T: Default + 'static, U: 'static>(
 fn boxes() -> Row {
     measured(
         "box",
+        pieces(),
         |(piece, _), out| ours::bound(piece, out),
         |shape| shape.object_bound(),
         |ours, rust| same_box(&ours, &rust::corners(rust)),
@@ -227,6 +236,7 @@ fn boxes() -> Row {
 fn hall_boxes() -> Row {
     measured(
         "hall box",
+        pieces(),
         |(piece, place), out| ours::world_bound(piece, &place.object_to_world, out),
         |shape| shape.world_bound(),
         |ours, rust| same_box(&ours, &rust::corners(rust)),
@@ -236,10 +246,28 @@ fn hall_boxes() -> Row {
 fn areas() -> Row {
     measured(
         "area",
+        pieces(),
         |(piece, _), out| ours::area(piece, out),
         |shape| shape.area(),
         |ours: f32, rust| same(&[ours], &[rust]),
     )
+}
+
+fn prices() -> Row {
+    let (pieces, shapes) = pieces();
+
+    measured(
+        "price",
+        (rated(pieces), rated(shapes)),
+        |((piece, _), rate), cents| ours::price(piece, *rate, cents),
+        |(shape, rate)| rust::price(shape, *rate),
+        |ours: u32, rust| u128::from(ours) == rust,
+    )
+}
+
+/// Each with its rate.
+fn rated<T>(pieces: Vec<T>) -> Vec<(T, u32)> {
+    pieces.into_iter().zip(draw::rates()).collect()
 }
 
 // The program.

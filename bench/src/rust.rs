@@ -1,7 +1,7 @@
 //! The unchanged Rust on the same inputs, and how it is timed. Curves, transforms and sets of parameters are
 //! made beforehand, as a scene's are; a ray is made for each call, and so is the handle on the shape that
 //! `intersect` takes as `s`. The interaction that it fills is the caller's, and is made once. The nearest of a list is
-//! found by `intersect` on each of its curves.
+//! found by `intersect` on each of its curves, and a price by whole numbers from `area`.
 
 use crate::draw::{Beam, Belt, Hall, Matrix, Place};
 use crate::layout::{BOX_FLOATS, RAY_FLOATS};
@@ -148,6 +148,17 @@ pub fn corners(bounds: Bounds3f) -> [f32; BOX_FLOATS] {
     [p_min.x, p_min.y, p_min.z, p_max.x, p_max.y, p_max.z]
 }
 
+/// The cents nearest to the area's exact value times the rate, a half upward.
+pub fn price(shape: &Shapes, rate: u32) -> u128 {
+    let bits = shape.area().to_bits();
+    let digits = u128::from(bits & 0x7f_ffff | 0x80_0000) * u128::from(rate);
+    // So many of them stand behind the point: an area here is a normal float, below 2^23.
+    let behind = 150 - (bits >> 23);
+    let half = 1 << (behind - 1);
+
+    (digits + half) >> behind
+}
+
 /// What create_curve_shape looks up.
 pub fn params(belt: &Belt) -> ParamSet {
     let basis = if belt.spline { "bspline" } else { "bezier" };
@@ -213,12 +224,8 @@ pub fn time_laying(params: &[ParamSet], times: u32) -> Duration {
     time
 }
 
-/// One of the methods that take nothing but the curve, on all curves.
-pub fn time_shapes<T>(
-    shapes: &[Arc<Shapes>],
-    times: u32,
-    method: impl Fn(&Shapes) -> T,
-) -> Duration {
+/// One of the methods that take a curve, on all curves.
+pub fn time_shapes<S, T>(shapes: &[S], times: u32, method: impl Fn(&S) -> T) -> Duration {
     let start = Instant::now();
     for _ in 0..times {
         for shape in shapes {
