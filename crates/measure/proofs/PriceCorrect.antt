@@ -17,8 +17,8 @@ use Rattle.measure.specs.Area.{areaOf}
 use Rattle.measure.specs.Price.{mostRate, mostCents, priceOf, priceRefusals, priceIn}
 use Rattle.measure.proofs.AreaUnsigned.{area-unsigned}
 
-abbrev areaIn : List Float → Float
-areaIn l = areaOf (curveFrom l)
+abbrev areaFrom : List Float → Float
+areaFrom l = areaOf (curveFrom l)
 
 -- the refusals in their order: 9, then 20, whatever the area
 
@@ -30,15 +30,15 @@ pub refused-rate : (l : List Float) (rate : ℕ) → isCurve l ≡ true → most
 unfolding priceIn priceRefusals firstOf
 refused-rate l rate h k = rw (h, lt-ltb mostRate rate k) refl
 
-passed : (l : List Float) (rate : ℕ) → isCurve l ≡ true → rate ≤ mostRate → priceIn l rate ≡ priceOf (areaIn l) rate
+passed : (l : List Float) (rate : ℕ) → isCurve l ≡ true → rate ≤ mostRate → priceIn l rate ≡ priceOf (areaFrom l) rate
 unfolding priceIn priceRefusals firstOf
 passed l rate h k = rw (h, le-ltb mostRate rate k) refl
 
 -- 21 is asked of the rounded price
 pub price-correct :
-    (l : List Float) (rate : ℕ) → isCurve l ≡ true → rate ≤ mostRate → T (finite (areaIn l))
-    → let cents = nearestTo (λ _. 1) (num (areaIn l) * rate) (den (areaIn l)) in priceIn l rate ≡ cond (ltb mostCents cents) (Refused 21) (Cents cents)
-price-correct l rate h k f = passed l rate h k ∙ go (areaIn l) (area-unsigned l h) f
+    (l : List Float) (rate : ℕ) → isCurve l ≡ true → rate ≤ mostRate → T (finite (areaFrom l))
+    → let cents = nearestTo (λ _. 1) (num (areaFrom l) * rate) (den (areaFrom l)) in priceIn l rate ≡ cond (ltb mostCents cents) (Refused 21) (Cents cents)
+price-correct l rate h k f = passed l rate h k ∙ go (areaFrom l) (area-unsigned l h) f
   where
     go : (a : Float) → signOf a ≡ false → T (finite a) → let cents = nearestTo (λ _. 1) (num a * rate) (den a) in priceOf a rate ≡ cond (ltb mostCents cents) (Refused 21) (Cents cents)
     go nan s f = absurd f
@@ -47,8 +47,8 @@ price-correct l rate h k f = passed l rate h k ∙ go (areaIn l) (area-unsigned 
     go (fin false m e) s f = unfold priceOf wholeOf nearestTo in refl
 
 -- an area that is an infinity or a NaN has no price, at any rate
-pub price-of-no-number : (l : List Float) (rate : ℕ) → isCurve l ≡ true → rate ≤ mostRate → T (not (finite (areaIn l))) → priceIn l rate ≡ Refused 21
-price-of-no-number l rate h k f = passed l rate h k ∙ go (areaIn l) f
+pub price-of-no-number : (l : List Float) (rate : ℕ) → isCurve l ≡ true → rate ≤ mostRate → T (not (finite (areaFrom l))) → priceIn l rate ≡ Refused 21
+price-of-no-number l rate h k f = passed l rate h k ∙ go (areaFrom l) f
   where
     go : (a : Float) → T (not (finite a)) → priceOf a rate ≡ Refused 21
     go nan f = unfold priceOf wholeOf in refl
