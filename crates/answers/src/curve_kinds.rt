@@ -1,5 +1,5 @@
-// The library's answers of curves, area, price and boxes, and of any four points, their corners. Each function answers how many
-// words it put.
+// The library's answers of curves, area, price and boxes, and of any four points, their corners. Each function answers
+// how many words it put.
 use crate::places::CURVE;
 use crate::places::CURVE_END;
 use crate::places::P0;

@@ -20,7 +20,7 @@ use Rattle.float.proofs.Nearest.{half-rule, nearest-same, nearest-whole
 use Rattle.float.proofs.Pattern.{join, product-lt, twice, twice-hid}
 
 -- by any fraction that the value equals
-pub whole-value : (t : Ties) (k : ℕ) (v : Float) (s : Bool) (a c : ℕ) → 0 < c → HasValue v s a c → wholeOf t k v ≡ some (withSign s (nearestTo (atHalf t s) (a * k) c))
+whole-value : (t : Ties) (k : ℕ) (v : Float) (s : Bool) (a c : ℕ) → 0 < c → HasValue v s a c → wholeOf t k v ≡ some (withSign s (nearestTo (atHalf t s) (a * k) c))
 unfolding wholeOf
 whole-value t k nan s a c C h = absurd h
 whole-value t k (inf z) s a c C h = absurd h

@@ -1,4 +1,4 @@
--- Signs, for either format: what is made of values that are not below zero, by squares, products, sums and roots, has its sign clear. A NaN's sign counts as clear. Assumes nothing.
+-- Signs: what is made of values that are not below zero, by squares, products and sums of either format and by roots of binary32, has its sign clear. A NaN's sign counts as clear. Assumes nothing.
 use mathlib.Core.Path.{_≡_, refl, ap, _∙_}
 use mathlib.Core.Bool.{Bool, true, false, _&&_, cond, true≢false}
 use Prim.Native.Nat.{ℕ, zero, suc, _+_, _-_, _*_, _^_, _≤_, _<_}
@@ -40,6 +40,11 @@ square-sign f (inf false) = refl
 square-sign f (fin true m e) = sign-round f false (m * up e * (m * up e)) (down e * down e)
 square-sign f (fin false m e) = sign-round f false (m * up e * (m * up e)) (down e * down e)
 
+-- an infinity, or a NaN where the other factor is zero
+either : (b : Bool) → signOf (cond b nan (inf false)) ≡ false
+either true = refl
+either false = refl
+
 pub mul-sign : (f : Format) (x y : Float) → signOf x ≡ false → signOf y ≡ false → signOf (mul f x y) ≡ false
 unfolding mul
 mul-sign f nan y h k = refl
@@ -53,20 +58,12 @@ mul-sign f (fin false m e) (inf true) h k = absurd (true≢false k)
 mul-sign f (fin false m e) (fin true n d) h k = absurd (true≢false k)
 mul-sign f (inf false) (inf false) h k = refl
 mul-sign f (inf false) (fin false n d) h k = either (eqb n 0)
-  where
-    either : (b : Bool) → signOf (cond b nan (inf false)) ≡ false
-    either true = refl
-    either false = refl
 mul-sign f (fin false m e) (inf false) h k = either (eqb m 0)
-  where
-    either : (b : Bool) → signOf (cond b nan (inf false)) ≡ false
-    either true = refl
-    either false = refl
 mul-sign f (fin false m e) (fin false n d) h k = sign-round f false (m * up e * (n * up d)) (down e * down d)
 
 -- ---- not below zero: the sign is clear, or it is a zero
 
--- ±a / c < 0 with a sign means that there is something
+-- what has its sign set and is not below zero is a zero
 nothing : (n : ℕ) (d : ℤ) → lt (fin true n d) 0f ≡ false → n ≡ 0
 unfolding lt ofBits
 nothing zero d h = refl

@@ -51,6 +51,7 @@ pub fn shift_nearest(m: u64, s: u64) -> u64
     shift_with_tie(m, s, (m >> s) % 2)
 }
 
+// n, where a u32 holds it.
 fn hold(n: u64) -> Rounded
     ensures { λ r. ⌜ r ≡ sizeHeld n ⌝ }
 {

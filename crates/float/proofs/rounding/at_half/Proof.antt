@@ -1,5 +1,4 @@
--- `float::at_half` meets its contract: each return rewrites by the facts on its way.
--- Assumes nothing.
+-- `float::rounding::at_half` meets its contract: each return rewrites by the facts on its way. Assumes nothing.
 use borrow.Author.Needs.{needs}
 use Rattle.float.proofs.rounding.at_half.Statement.{statement}
 use Rattle.float.proofs.rounding.at_half.Tie as tie

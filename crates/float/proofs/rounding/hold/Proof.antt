@@ -1,5 +1,4 @@
--- `float::hold` meets its contract: each return rewrites by the facts on its way.
--- Assumes nothing.
+-- `float::rounding::hold` meets its contract: each return rewrites by the facts on its way. Assumes nothing.
 use borrow.Author.Needs.{needs}
 use borrow.Author.Tests.{le-ltb, lt-ltb}
 use Rattle.float.proofs.rounding.hold.Statement.{statement}
