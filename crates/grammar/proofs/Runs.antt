@@ -7,7 +7,7 @@ use native.Mathlib.Nat.{le-refl, not-suc-le-zero, eq-or-lt-of-le, le-of-suc-le-s
 use native.Mathlib.Omega.{arith}
 use borrow.Author.Tests.{eqb-true, eqb-false, eq-eqb, ne-eqb}
 use lib.Dec.{eqb}
-use Rattle.text.specs.Bytes.{allBelow}
+use Rattle.limits.specs.Below.{allBelow}
 use Rattle.grammar.specs.Grammar.{runBelow}
 
 -- all pass

@@ -7,9 +7,10 @@ use lib.Ieee.{Float, binary32, ofBits}
 use lib.ListN.{length}
 use Rattle.geometry.specs.Point.{pointFloats}
 use Rattle.geometry.specs.Ray.{rayFloats}
+use Rattle.limits.specs.Below.{allBelow}
 use Rattle.limits.specs.List.{upTo}
 use Rattle.text.specs.Ascii.{ascii}
-use Rattle.text.specs.Bytes.{allBelow, byteIs, standsAt, digitAt, isWord, wordAt}
+use Rattle.text.specs.Bytes.{byteIs, standsAt, digitAt, isWord, wordAt}
 use Rattle.grammar.specs.declared.line.Line.{Line}
 use Rattle.grammar.specs.declared.line.Line.the-variants.{Value, Wrong}
 

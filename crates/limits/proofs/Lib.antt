@@ -1,3 +1,4 @@
+pub mod Below
 pub mod Lists
 pub mod Refusals
 mod Interval

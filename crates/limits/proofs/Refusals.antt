@@ -1,7 +1,7 @@
 -- The first row of a table that holds, and the answer that it decides. Assumes nothing.
 use mathlib.Core.Path.{_≡_, refl}
-use mathlib.Core.Bool.{Bool, true, false}
-use mathlib.Core.List.{_∷_}
+use mathlib.Core.Bool.{Bool, true, false, cond, _&&_, and-eq-true-iff}
+use mathlib.Core.List.{[], _∷_}
 use Prim.Native.Nat.{ℕ, zero, suc}
 use native.Mathlib.Omega.{arith}
 use Rattle.limits.specs.Refusal.{Table, firstOf, told}
@@ -14,6 +14,21 @@ passed true k rest e = absurd (no k e)
     no : (k : ℕ) → suc k ≡ 0 → ⊥
     no k e = omega arith
 passed false k rest e = (refl, e)
+
+-- every number of a table passes P
+abbrev pub numbersPass : (ℕ → Bool) → Table → Bool
+numbersPass P [] = true
+numbersPass P (row ∷ rest) = P (row .1) && numbersPass P rest
+
+-- so the first that holds does, and where none holds 0
+pub first-passes : (P : ℕ → Bool) (t : Table) → P 0 ≡ true → numbersPass P t ≡ true → P (firstOf t) ≡ true
+unfolding firstOf
+first-passes P [] z h = z
+first-passes P (row ∷ rest) z h = let both = and-eq-true-iff (P (row .1)) (numbersPass P rest) .0 h in go (row .0) (both .0) (first-passes P rest z (both .1))
+  where
+    go : (b : Bool) → P (row .1) ≡ true → P (firstOf rest) ≡ true → P (cond b (row .1) (firstOf rest)) ≡ true
+    go true p q = p
+    go false p q = q
 
 -- a number that is not 0 is told
 pub told-refused : {A : Type 0} (refused : ℕ → A) (n : ℕ) (answer : A) → (n ≡ 0 → ⊥) → refused n ≡ told refused n answer

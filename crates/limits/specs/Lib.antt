@@ -1,3 +1,4 @@
+pub mod Below
 pub mod List
 pub mod Refusal
 pub mod Within

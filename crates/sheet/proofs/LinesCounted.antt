@@ -1,20 +1,23 @@
 -- The number of a wrong line is its number in the sheet: it starts behind the lines that are right, and before it stand as many LFs as there are such lines. Assumes nothing.
 use mathlib.Core.Logic.{inl, inr}
-use mathlib.Core.Bool.{Bool, true, false, cond, false≢true, and-eq-true-iff}
-use mathlib.Core.List.{List, [], _∷_}
+use mathlib.Core.Bool.{Bool, true, false, cond, not, false≢true, and-eq-true-iff}
+use mathlib.Core.List.{List}
 use mathlib.Core.Path.{_≡_, refl, sym, ap, subst, _∙_}
-use Prim.Native.Nat.{ℕ, zero, suc, _+_, _*_, _<_, _≤_}
+use Prim.Native.Nat.{ℕ, zero, suc, _+_, _*_, _<_}
 use native.Mathlib.Nat.{le-refl, add-zero, zero-mul, suc-mul}
 use native.Mathlib.Omega.{arith}
-use lib.Dec.{ltb, lit<, lit≤}
+use borrow.Author.Tests.{not-true, eqb-false}
+use lib.Dec.{ltb, eqb, lit<}
 use lib.Ieee.{Float}
 use lib.ListN.{length}
 use Rattle.geometry.specs.Point.{pointFloats}
 use Rattle.geometry.specs.Ray.{rayFloats}
+use Rattle.limits.specs.Below.{allBelow}
 use Rattle.limits.specs.List.{over}
-use Rattle.limits.specs.Refusal.{Table, firstOf, told}
+use Rattle.limits.specs.Refusal.{firstOf, told}
+use Rattle.limits.proofs.Refusals.{first-passes}
 use Rattle.text.specs.Ascii.{ascii}
-use Rattle.text.specs.Bytes.{allBelow, byteIs}
+use Rattle.text.specs.Bytes.{byteIs}
 use Rattle.create.specs.Create.{limitRefusals, createRefusals, createdOf}
 use Rattle.create.specs.declared.create.Created.the-variants as created
 use Rattle.create.specs.declared.create.Params.{Params}
@@ -26,10 +29,10 @@ use Rattle.grammar.specs.declared.head.Head.{Head}
 use Rattle.grammar.specs.declared.line.Line.{Line}
 use Rattle.grammar.specs.declared.line.Line.the-variants.{Value, Wrong}
 use Rattle.grammar.proofs.Runs.{run-passes}
+use Rattle.sheet.specs.Answer.{replyNumber, replyLine}
 use Rattle.sheet.specs.Lines.{feedsBefore, lineNumber, StartsLine}
 use Rattle.sheet.specs.Sheet.{noRays, refusedWith, paramsIn, withCurves, pointCount, pointsOf, raysFrom, raysAt, rayCount, raysOf, linesRight, rightEnd, isWhole, sheetWithin, sheetOf}
-use Rattle.sheet.specs.declared.Reply.{Reply}
-use Rattle.sheet.specs.declared.Reply.the-variants.{Accepted, Refused}
+use Rattle.sheet.specs.declared.Reply.the-variants.{Refused}
 use Rattle.sheet.specs.declared.Sheet.{Sheet}
 use Rattle.sheet.proofs.OneLine.{Plain, IsLine, NoFeed, Ends, row-line, line-ends}
 
@@ -121,42 +124,18 @@ right-end-starts l = lines-counted l .1
 
 -- ---- the reply
 
--- a refusal's number and line
-abbrev numberIn : Reply → ℕ
-numberIn (Accepted pieces reverse n) = 0
-numberIn (Refused number line) = number
+-- laying does not tell 17
+laying-other : (l : List Float) (p : Params) (room : ℕ) → firstOf (createRefusals l p room) ≡ 17 → ⊥
+laying-other l p room = eqb-false _ 17 (not-true _ (first-passes (λ k. not (eqb k 17)) (createRefusals l p room) refl (unfold createRefusals limitRefusals in refl)))
 
-abbrev lineIn : Reply → ℕ
-lineIn (Accepted pieces reverse n) = 0
-lineIn (Refused number line) = line
-
--- no number of a table is larger
-abbrev AtMost : ℕ → Table → Type 0
-AtMost m [] = Unit {0}
-AtMost m (row ∷ rest) = (row .1 ≤ m) × AtMost m rest
-
-first-most : (m : ℕ) (t : Table) → AtMost m t → firstOf t ≤ m
-unfolding firstOf
-first-most m [] a = omega arith
-first-most m (row ∷ rest) a = go (row .0) (a .0) (first-most m rest (a .1))
-  where
-    go : (b : Bool) → row .1 ≤ m → firstOf rest ≤ m → cond b (row .1) (firstOf rest) ≤ m
-    go true h g = h
-    go false h g = g
-
--- laying's numbers are 1 to 8
-laying-most : (l : List Float) (p : Params) (room : ℕ) → firstOf (createRefusals l p room) ≤ 8
-unfolding createRefusals limitRefusals
-laying-most l p room = first-most 8 (createRefusals l p room) (lit≤ tt, (lit≤ tt, (lit≤ tt, (lit≤ tt, (lit≤ tt, (lit≤ tt, (lit≤ tt, (lit≤ tt, tt))))))))
-
-curves-most : (h : Head) (n : ℕ) (rays : List Float) (k m : ℕ) → k ≤ 8 → numberIn (withCurves h n rays (told created.Refused k (created.Curves m)) .reply) ≤ 8
+curves-other : (h : Head) (n : ℕ) (rays : List Float) (k m : ℕ) → (k ≡ 17 → ⊥) → replyNumber (withCurves h n rays (told created.Refused k (created.Curves m)) .reply) ≡ 17 → ⊥
 unfolding refusedWith
-curves-most h n rays zero m b = lit≤ tt
-curves-most h n rays (suc k) m b = b
+curves-other h n rays zero m other e = omega (arith, e)
+curves-other h n rays (suc k) m other e = other e
 
-created-most : (h : Head) (n : ℕ) (rays l : List Float) (p : Params) (room : ℕ) → numberIn (withCurves h n rays (createdOf l p room) .reply) ≤ 8
+created-other : (h : Head) (n : ℕ) (rays l : List Float) (p : Params) (room : ℕ) → replyNumber (withCurves h n rays (createdOf l p room) .reply) ≡ 17 → ⊥
 unfolding createdOf
-created-most h n rays l p room = curves-most h n rays (firstOf (createRefusals l p room)) _ (laying-most l p room)
+created-other h n rays l p room = curves-other h n rays (firstOf (createRefusals l p room)) _ (laying-other l p room)
 
 -- THE LAW: the line of a refusal 17 is the one that starts behind the lines that are right
 pub wrong-line : (l : List ℕ) (room k : ℕ) → sheetOf l room .reply ≡ Refused 17 k → k ≡ lineNumber l (rightEnd l (headOf l .cursor))
@@ -170,6 +149,6 @@ wrong-line l room k = go (ltb mostBytes (length l)) (isWhole l c)
     laid = withCurves (headOf l) (rayCount l c) (over noRays 0 (raysOf l c)) (createdOf (pointsOf l c) (paramsIn (headOf l)) room)
 
     go : (b d : Bool) → cond b (refusedWith 18 0) (cond d laid (refusedWith 17 (linesRight l c + 1))) .reply ≡ Refused 17 k → k ≡ feedsBefore l (rightEnd l c) + 1
-    go true d e = absurd (omega (arith, ap numberIn e))
-    go false true e = absurd (omega (arith, ap numberIn e, created-most (headOf l) (rayCount l c) (over noRays 0 (raysOf l c)) (pointsOf l c) (paramsIn (headOf l)) room))
-    go false false e = sym (ap lineIn e) ∙ ap (λ (n : ℕ). n + 1) (sym (lines-counted l .0))
+    go true d e = absurd (omega (arith, ap replyNumber e))
+    go false true e = absurd (created-other (headOf l) (rayCount l c) (over noRays 0 (raysOf l c)) (pointsOf l c) (paramsIn (headOf l)) room (ap replyNumber e))
+    go false false e = sym (ap replyLine e) ∙ ap (λ (n : ℕ). n + 1) (sym (lines-counted l .0))

@@ -10,9 +10,10 @@ use lib.Dec.{eqb, ltb, lit<}
 use lib.ListN.{length, getD}
 use Rattle.geometry.specs.Point.{pointFloats}
 use Rattle.geometry.specs.Ray.{rayFloats}
+use Rattle.limits.specs.Below.{allBelow}
+use Rattle.limits.proofs.Below.{all-at}
 use Rattle.text.specs.Ascii.{ascii}
-use Rattle.text.specs.Bytes.{allBelow, byteIs, standsAt, digitOf, digitAt, fourAt, isWord, wordAt}
-use Rattle.text.proofs.Below.{all-at}
+use Rattle.text.specs.Bytes.{byteIs, standsAt, digitOf, digitAt, fourAt, isWord, wordAt}
 use Rattle.text.proofs.Places.{word-fours}
 use Rattle.grammar.specs.Grammar.{lineFeed, comma, decimalAt, decimalLine, wordLineAt, wordLine, eitherLine, typeLine, laterLine, headLine, floatSize, separator, isFloats, isRow, rowSize, pointKey, rayKey, rowAt, headLines, pointLine, rowKey, rowFloats, rowLine, lineAt}
 use Rattle.grammar.specs.declared.line.Line.{Line}

@@ -8,9 +8,9 @@ use native.Mathlib.Omega.{arith}
 use lib.Dec.{lit<}
 use lib.ListN.{length}
 use Rattle.geometry.specs.Point.{pointFloats}
+use Rattle.limits.specs.Below.{allBelow}
+use Rattle.limits.proofs.Below.{all-at}
 use Rattle.text.specs.Ascii.{ascii}
-use Rattle.text.specs.Bytes.{allBelow}
-use Rattle.text.proofs.Below.{all-at}
 use Rattle.text.proofs.Places.{byte-within}
 use Rattle.grammar.specs.Grammar.{mostBytes, roomPoints, isRow, rowSize, pointKey, runBelow, rowsFrom}
 use Rattle.grammar.specs.declared.head.Cursor.{Cursor}

@@ -9,11 +9,12 @@ use borrow.Author.Tests.{le-ltb, ne-eqb}
 use lib.Dec.{eqb·suc-suc, lit<}
 use lib.Ieee.{Float, binary32, ofBits}
 use lib.ListN.{length, getD}
+use Rattle.limits.specs.Below.{allBelow}
 use Rattle.limits.specs.List.{upTo}
+use Rattle.limits.proofs.Below.{all-first, all-fails}
 use Rattle.text.specs.Ascii.{ascii}
-use Rattle.text.specs.Bytes.{allBelow, byteIs, standsAt, isWord}
+use Rattle.text.specs.Bytes.{byteIs, standsAt, isWord}
 use Rattle.text.specs.Digits.{hexText}
-use Rattle.text.proofs.Below.{all-first, all-fails}
 use Rattle.text.proofs.DigitsBack.{word-back}
 use Rattle.text.proofs.Places.{Reads, reads-next, byte-here, stands-not}
 use Rattle.grammar.specs.Grammar.{separator, floatSize, isFloats, isRow, rowSize, floatAt, floatsAt, pointKey, rayKey, rowsFrom, floatsFrom}

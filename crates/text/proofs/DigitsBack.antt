@@ -8,9 +8,10 @@ use native.Mathlib.Omega.{arith}
 use borrow.Author.Tests.{lt-ltb, eqb-true, not-true}
 use lib.Dec.{eqb}
 use lib.ListN.{length, getD}
-use Rattle.text.specs.Bytes.{allBelow, digitOf, digitAt, fourAt, isWord, wordAt}
+use Rattle.limits.specs.Below.{allBelow}
+use Rattle.limits.proofs.Below.{all-at}
+use Rattle.text.specs.Bytes.{digitOf, digitAt, fourAt, isWord, wordAt}
 use Rattle.text.specs.Digits.{digitChar, fourText, hexText}
-use Rattle.text.proofs.Below.{all-at}
 use Rattle.text.proofs.Places.{Reads, reads-next, digit-at}
 
 digits : allBelow 16 (λ d. eqb (digitOf (digitChar d)) d) ≡ true

@@ -1,4 +1,3 @@
-pub mod Below
 pub mod Decimal
 pub mod DigitSize
 pub mod DigitsBack

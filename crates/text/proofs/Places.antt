@@ -9,8 +9,8 @@ use borrow.Author.Tests.{lt-ltb, le-ltb, ltb-true, leb-true, leb-false, eq-eqb}
 use lib.Dec.{eqb, ltb, leb}
 use lib.ListN.{length, getD, drop, length-append, List·getD-append}
 use lib.Seq.{getD-drop, drop-drop, drop-append-seam}
+use Rattle.limits.proofs.Below.{all-each, all-fails}
 use Rattle.text.specs.Bytes.{byteIs, standsAt, digitOf, digitAt, fourAt, isWord}
-use Rattle.text.proofs.Below.{all-each, all-fails}
 
 -- ---- past the end
 

@@ -1,14 +1,10 @@
 -- Bytes of a text, by place: words that stand there, and digits. Definitions only. A place past the end has no byte.
-use Prim.Native.Nat.{ℕ, zero, suc, _+_, _-_, _*_}
-use mathlib.Core.Bool.{Bool, true, cond, _&&_}
+use Prim.Native.Nat.{ℕ, _+_, _-_, _*_}
+use mathlib.Core.Bool.{Bool, cond, _&&_}
 use mathlib.Core.List.{List}
 use lib.Dec.{eqb, ltb, leb}
 use lib.ListN.{length, getD}
-
--- every number below n passes P
-unfoldable pub allBelow : ℕ → (ℕ → Bool) → Bool
-allBelow zero P = true
-allBelow (suc n) P = allBelow n P && P n
+use Rattle.limits.specs.Below.{allBelow}
 
 -- the byte b stands at the place i
 unfoldable pub byteIs : List ℕ → ℕ → ℕ → Bool

@@ -8,9 +8,10 @@ use native.Mathlib.Omega.{arith}
 use borrow.Author.Needs.{needs}
 use borrow.Author.Tests.{not-true, not-false}
 use denote.Ref.{now}
-use Rattle.text.specs.Bytes.{allBelow, byteIs, isWord}
+use Rattle.limits.specs.Below.{allBelow}
+use Rattle.limits.proofs.Below.{all-next, all-fails}
+use Rattle.text.specs.Bytes.{byteIs, isWord}
 use Rattle.grammar.specs.Grammar.{floatSize, separator, isFloats}
-use Rattle.text.proofs.Below.{all-next, all-fails}
 use Rattle.grammar.proofs.row.is_floats.Statement.{statement}
 use Rattle.grammar.proofs.row.is_floats.Tie as tie
 

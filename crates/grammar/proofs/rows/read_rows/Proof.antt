@@ -12,10 +12,10 @@ use denote.Ref.{now}
 use lib.Ieee.{Float}
 use lib.ListN.{length}
 use Rattle.geometry.specs.Ray.{rayFloats}
+use Rattle.limits.specs.Below.{allBelow}
 use Rattle.limits.specs.List.{over, upTo}
+use Rattle.limits.proofs.Below.{all-next}
 use Rattle.limits.proofs.Lists.{over-nil, over-next, over-length}
-use Rattle.text.specs.Bytes.{allBelow}
-use Rattle.text.proofs.Below.{all-next}
 use Rattle.grammar.specs.Grammar.{far, longestKey, floatSize, isRow, rowSize, floatsAt, headLines, rowKey, rowFloats, rowsFrom, floatsFrom, mostBytes, roomPoints}
 use Rattle.grammar.specs.Taken.{takenAt}
 use Rattle.grammar.specs.declared.reader.Taken.{Taken}

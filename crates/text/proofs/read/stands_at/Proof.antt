@@ -9,8 +9,9 @@ use borrow.Author.Needs.{needs}
 use borrow.Author.Tests.{not-true, not-false}
 use denote.Ref.{now}
 use lib.ListN.{length, getD}
-use Rattle.text.specs.Bytes.{allBelow, byteIs, standsAt}
-use Rattle.text.proofs.Below.{all-next, all-fails}
+use Rattle.limits.specs.Below.{allBelow}
+use Rattle.limits.proofs.Below.{all-next, all-fails}
+use Rattle.text.specs.Bytes.{byteIs, standsAt}
 use Rattle.text.proofs.Places.{byte-within}
 use Rattle.text.proofs.read.stands_at.Statement.{statement}
 use Rattle.text.proofs.read.stands_at.Tie as tie

@@ -6,7 +6,7 @@ use Prim.Native.Nat.{ℕ, zero, suc, _+_, _<_}
 use native.Mathlib.Nat.{le-refl, not-suc-le-zero, eq-or-lt-of-le, le-of-suc-le-suc}
 use native.Mathlib.Numerals.{add-one}
 use native.Mathlib.Omega.{arith}
-use Rattle.text.specs.Bytes.{allBelow}
+use Rattle.limits.specs.Below.{allBelow}
 
 -- one more that passes
 pub all-next : (P : ℕ → Bool) (k : ℕ) → allBelow k P ≡ true → P k ≡ true → allBelow (k + 1) P ≡ true
