@@ -4,8 +4,9 @@ use mathlib.Core.Path.{_≡_, refl, sym, _∙_}
 use Prim.Native.Nat.{ℕ, zero, suc, _+_, _*_, _≤_, _<_}
 use native.Mathlib.Nat.{le-refl, le-trans, le-of-lt, lt-of-lt-of-le, lt-irrefl, zero-lt-suc, zero-mul, mul-pos, mul-right-comm, mul-le-mul-right, le-of-mul-le-mul-right, mul-lt-mul-of-pos-right, lt-of-mul-lt-mul-right}
 use native.Mathlib.Omega.{arith}
-use borrow.Author.Tests.{ltb-true, ltb-false, lt-ltb, le-ltb, eqb-true}
+use borrow.Author.Tests.{ltb-true, ltb-false, lt-ltb, le-ltb, eqb-true, eq-eqb}
 use lib.Dec.{eqb}
+use lib.IntN.{ℤ}
 use lib.Ieee.{Float, nan, inf, fin, up, down, below, isNan, lt, eq, le}
 use lib.Ieee.Fits.{down-pos}
 
@@ -137,6 +138,40 @@ lt-asym x y h = go (lt y x) refl
     go : (b : Bool) → lt y x ≡ b → b ≡ false
     go true k = sym (lt-trans x y x h k) ∙ lt-itself x
     go false k = refl
+
+-- ---- equals
+
+-- only numbers are equal
+pub eq-numbers : (x y : Float) → eq x y ≡ true → (isNan x ≡ false) × (isNan y ≡ false)
+unfolding eq isNan
+eq-numbers nan y h = absurd (false≢true h)
+eq-numbers (inf s) nan h = absurd (false≢true h)
+eq-numbers (fin s m e) nan h = absurd (false≢true h)
+eq-numbers (inf s) (inf t) h = (refl, refl)
+eq-numbers (inf s) (fin t n d) h = absurd (false≢true h)
+eq-numbers (fin s m e) (inf t) h = absurd (false≢true h)
+eq-numbers (fin s m e) (fin t n d) h = (refl, refl)
+
+-- each equals itself, an infinity too
+pub eq-itself : (x : Float) → isNan x ≡ false → eq x x ≡ true
+unfolding eq isNan
+eq-itself nan h = absurd (true≢false h)
+eq-itself (inf true) h = refl
+eq-itself (inf false) h = refl
+eq-itself (fin s m e) h = rw (eq-eqb (m * up e * down e) _ refl, same s)
+  where
+    same : (s : Bool) → Bool·beq s s ≡ true
+    same true = refl
+    same false = refl
+
+-- and so do zeros, whatever their signs
+pub eq-zeros : (s t : Bool) (e d : ℤ) → eq (fin s 0 e) (fin t 0 d) ≡ true
+unfolding eq
+eq-zeros s t e d = rw (zero-mul (up e), zero-mul (down d), zero-mul (up d), zero-mul (down e)) (or-true (Bool·beq s t))
+  where
+    or-true : (b : Bool) → b || true ≡ true
+    or-true true = refl
+    or-true false = refl
 
 -- equals, and what is at most another, are not above it
 

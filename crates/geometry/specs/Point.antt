@@ -1,6 +1,6 @@
 -- Points. The Rust file is not supplied: 01 says how they behave. Definitions only.
 use Prim.Native.Nat.{ℕ, _+_}
-use mathlib.Core.Bool.{cond}
+use mathlib.Core.Bool.{Bool, cond, _&&_}
 use mathlib.Core.List.{List}
 use lib.ListN.{getD}
 use lib.Ieee.{Float, nan, eq}
@@ -61,6 +61,10 @@ leastOf p q = record { x = minOf (p .x) (q .x); y = minOf (p .y) (q .y); z = min
 
 unfoldable pub greatestOf : Point3f → Point3f → Point3f
 greatestOf p q = record { x = maxOf (p .x) (q .x); y = maxOf (p .y) (q .y); z = maxOf (p .z) (q .z) }
+
+-- p == q, in each coordinate: -0 equals 0, and a NaN equals nothing
+unfoldable pub pointsEqual : Point3f → Point3f → Bool
+pointsEqual p q = eq (p .x) (q .x) && eq (p .y) (q .y) && eq (p .z) (q .z)
 
 -- lerp(t, p, q): p * (1 - t) + q * t
 unfoldable pub pointLerp : Float → Point3f → Point3f → Point3f

@@ -2,7 +2,7 @@
 ghost use mathlib.Core.Path.{_≡_};
 ghost use Prim.Native.Nat.{_+_, _≤_};
 ghost use lib.ListN.{length};
-ghost use Rattle.geometry.specs.Point.{pointFrom, difference2, plus, moved, difference, pointScaled, pointDivided, leastOf, greatestOf, pointLerp};
+ghost use Rattle.geometry.specs.Point.{pointFrom, difference2, plus, moved, difference, pointScaled, pointDivided, leastOf, greatestOf, pointLerp, pointsEqual};
 use crate::pbrt::lerp;
 use crate::vector::Vector2f;
 use crate::vector::Vector3f;
@@ -125,6 +125,13 @@ impl Point3f {
             y: float::max(self.y, p.y),
             z: float::max(self.z, p.z),
         }
+    }
+
+    // In each coordinate: -0 equals 0, and a NaN equals nothing.
+    pub fn eq(self, p: Point3f) -> bool
+        ensures { λ r. ⌜ r ≡ pointsEqual self p ⌝ }
+    {
+        (self.x == p.x) & (self.y == p.y) & (self.z == p.z)
     }
 
     // The Rust's `lerp` at two points: from `x` at 0 to `y` at 1.
