@@ -8,7 +8,7 @@ use lib.Ieee.{Float}
 use lib.ListN.{length, take, drop}
 use Rattle.limits.specs.List.{over, upTo}
 use Rattle.create.specs.Create.{mostCurves}
-use Rattle.sheet.specs.Sheet.{mostRays, lastLine}
+use Rattle.sheet.specs.Sheet.{mostRays, lastNumber, lastLine}
 use Rattle.sheet.specs.declared.Reply.{Reply}
 use Rattle.sheet.specs.declared.Reply.the-variants.{Accepted, Refused}
 use Rattle.report.specs.Printed.{piecesText, refusedSheetText}
@@ -20,7 +20,7 @@ use Rattle.blocks.specs.Report.{metText}
 -- how large the numbers of a sheet's reply are
 abbrev pub Small : Reply → Type 0
 Small (Accepted pieces reverse n) = (pieces ≤ mostCurves) × (n ≤ mostRays)
-Small (Refused number line) = (number ≤ 18) × (line ≤ lastLine)
+Small (Refused number line) = (number ≤ lastNumber) × (line ≤ lastLine)
 
 -- ---- lines
 

@@ -13,7 +13,7 @@ use lib.ListN.{length}
 use Rattle.create.specs.Basis.{strideOf}
 use Rattle.curve.specs.Layout.{floats}
 use Rattle.limits.specs.Within.{widthWithin}
-use Rattle.create.specs.Create.{divisible, countWrong, segmentCount, partCount, curveCount, allWithin, leastWidth, greatestWidth, limitWrong, limitRefusals, createRefusals}
+use Rattle.create.specs.Create.{divisible, countWrong, segmentCount, partCount, curveCount, neighboursDiffer, allWithin, leastWidth, greatestWidth, limitWrong, limitRefusals, createRefusals}
 use Rattle.limits.specs.Refusal.{firstOf}
 use Rattle.limits.proofs.Refusals.{passed}
 use Rattle.create.specs.declared.create.Params.{Params}
@@ -70,6 +70,7 @@ spans len d b l h e = go (eqb b 0) (neither (not (eqb (len % 3) 0)) (cond (eqb b
 pub record Accepted (l : List Float) (p : Params) (room : ℕ) : Type 0 where
   pub degree-low : 2 ≤ p .degree
   pub degree-high : p .degree ≤ 3
+  pub apart : neighboursDiffer l ≡ true
   pub split : p .splitdepth ≤ 10
   pub few : segmentCount (length l / 3) (p .degree) (p .basis) ≤ 256
   pub points : segmentCount (length l / 3) (p .degree) (p .basis) * strideOf (p .degree) (p .basis) + (3 * p .degree + 3) ≤ length l + strideOf (p .degree) (p .basis)
@@ -84,7 +85,8 @@ accepted l p room e =
     let r1 = passed _ 0 _ e in
     let r2 = passed _ 1 _ (r1 .1) in
     let r3 = passed _ 2 _ (r2 .1) in
-    let r4 = passed _ 3 _ (r3 .1) in
+    let r22 = passed _ 21 _ (r3 .1) in
+    let r4 = passed _ 3 _ (r22 .1) in
     let r5 = passed _ 4 _ (r4 .1) in
     let r6 = passed _ 5 _ (r5 .1) in
     let r7 = passed _ 6 _ (r6 .1) in
@@ -95,6 +97,7 @@ accepted l p room e =
     record {
       degree-low = d .0;
       degree-high = d .1;
+      apart = not-false _ (r22 .0);
       split = ltb-false _ _ (r5 .0);
       few = le-trans (segment-count-le _ _ _) (ltb-false _ _ (neither _ _ (r6 .0) .0));
       points = spans _ _ _ (d .0) (d .1) (r3 .0);

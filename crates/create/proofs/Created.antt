@@ -1,12 +1,13 @@
 -- create_curve_shape's answer and its list, where a row of its table holds and where none does. Assumes nothing.
-use mathlib.Core.Path.{_≡_}
+use mathlib.Core.Path.{_≡_, refl}
 use mathlib.Core.List.{List}
-use Prim.Native.Nat.{ℕ, _*_, _/_}
+use Prim.Native.Nat.{ℕ, zero, suc, _*_, _/_}
+use native.Mathlib.Omega.{arith}
 use lib.Ieee.{Float}
 use lib.ListN.{length}
 use Rattle.limits.specs.List.{over}
 use Rattle.create.specs.Create.{segmentCount, partCount, curveCount, createRefusals, createdFloats, createdOf, listAfter}
-use Rattle.limits.specs.Refusal.{firstOf}
+use Rattle.limits.specs.Refusal.{firstOf, told}
 use Rattle.limits.proofs.Refusals.{told-refused}
 use Rattle.create.specs.declared.create.Params.{Params}
 use Rattle.create.specs.declared.create.Created.the-variants.{Curves, Refused}
@@ -20,3 +21,8 @@ module _ (l : List Float) (p : Params) (list : List Float) (number : ℕ) (e : n
       → (Curves (n * parts) ≡ createdOf l p (length list)) × (after ≡ listAfter l p list)
   unfolding createdOf listAfter curveCount
   answered z n parts after a b f = (rw (← e, z, a, b), rw (← e, z, f, a))
+
+-- an answer of curves tells that no row holds
+pub answered-zero : (number m n : ℕ) → told Refused number (Curves m) ≡ Curves n → (number ≡ 0) × (m ≡ n)
+answered-zero zero m n a = (refl, cc)
+answered-zero (suc number) m n a = absurd (let z : _≡_ {A = ℕ} 0 1 = cc in omega arith)

@@ -1,9 +1,9 @@
 -- What the definitions of `specs/` mean: the laws that other crates and readers may rest on. Assumes nothing.
 -- Every curve that create_curve_shape writes passes refusal 9, for every input that it accepts: `created-passes`, and `answered-passes` by its answer.
-use mathlib.Core.Path.{_≡_, refl, ap, _∙_}
+use mathlib.Core.Path.{_≡_, ap, _∙_}
 use mathlib.Core.Bool.{true}
 use mathlib.Core.List.{List, _++_}
-use Prim.Native.Nat.{ℕ, zero, suc, _+_, _*_, _/_, _%_, _≤_, _<_}
+use Prim.Native.Nat.{ℕ, _+_, _*_, _/_, _%_, _≤_, _<_}
 use native.Mathlib.Nat.{le-trans, mul-comm, mul-assoc, add-mul, mod-lt, div-add-mod', div-lt-iff-lt-mul}
 use native.Mathlib.Omega.{arith}
 use lib.Dec.{lit≤}
@@ -14,9 +14,9 @@ use lib.Ieee.{Float, binary32}
 use Rattle.float.proofs.Bound.{quotient-weight}
 use Rattle.curve.specs.declared.curve.Curve.{Curve}
 use Rattle.create.specs.declared.create.Params.{Params}
-use Rattle.create.specs.declared.create.Created.the-variants.{Curves, Refused}
+use Rattle.create.specs.declared.create.Created.the-variants.{Curves}
 use Rattle.limits.specs.List.{over, upTo}
-use Rattle.limits.specs.Refusal.{firstOf, told}
+use Rattle.limits.specs.Refusal.{firstOf}
 use Rattle.curve.specs.Layout.{floats, curveFloats}
 use Rattle.limits.specs.Within.{widthWithin}
 use Rattle.curve.specs.Curve.{narrowest, widest, inLimits, isCurve}
@@ -24,6 +24,7 @@ use Rattle.create.specs.Basis.{strideOf, segmentAt}
 use Rattle.create.specs.Create.{segmentCount, partCount, curveCount, createRefusals, ratio, partOf, endWidth, partFloats, segmentFloats, createdFloats, createdOf, listAfter}
 use Rattle.create.proofs.Accepted.{Accepted, accepted}
 use Rattle.create.proofs.Counts.{within-points}
+use Rattle.create.proofs.Created.{answered-zero}
 use Rattle.curve.proofs.Records.{length-floats, is-curve-within}
 use Rattle.create.proofs.Lengths.{length-segment}
 use Rattle.create.proofs.Limits.{segment-within, width-lerp, umin-umax}
@@ -90,8 +91,4 @@ created-passes l p list e k h =
 -- the same for a caller: where it answers n curves, the first n records of the list pass
 pub answered-passes : (l : List Float) (p : Params) (list : List Float) (n : ℕ) → createdOf l p (length list) ≡ Curves n → (k : ℕ) → k < n → isCurve (take floats (drop (floats * k) (listAfter l p list))) ≡ true
 unfolding createdOf
-answered-passes l p list n a k h = let z = go (firstOf (createRefusals l p (length list))) (curveCount (length l / 3) p) a in created-passes l p list (z .0) k (rw (z .1) h)
-  where
-    go : (number m : ℕ) → told Refused number (Curves m) ≡ Curves n → (number ≡ 0) × (m ≡ n)
-    go zero m a = (refl, cc)
-    go (suc number) m a = absurd (let z : _≡_ {A = ℕ} 0 1 = cc in omega arith)
+answered-passes l p list n a k h = let z = answered-zero (firstOf (createRefusals l p (length list))) (curveCount (length l / 3) p) n a in created-passes l p list (z .0) k (rw (z .1) h)

@@ -1,8 +1,8 @@
 pub mod CreatedPasses
+pub mod NeighboursDiffer
 mod Accepted
 mod Counts
 mod Created
 mod Divisible
 mod Lengths
 mod Limits
-mod Within

@@ -16,13 +16,12 @@ use Rattle.geometry.specs.declared.point.Point3f.{Point3f}
 use Rattle.geometry.specs.Pbrt.{lerpOf}
 use Rattle.geometry.specs.Point.{pointLerp}
 use Rattle.bezier.specs.declared.cubic.Cubic.{Cubic}
-use Rattle.limits.specs.Within.{largest}
-use Rattle.limits.specs.Within.{within, widthWithin}
+use Rattle.limits.specs.Within.{largest, within, widthWithin}
+use Rattle.limits.proofs.Below.{all-at}
 use Rattle.curve.specs.Curve.{farthest, narrowest, widest, pointWithin, cubicWithin}
 use Rattle.geometry.specs.Point.{pointFrom}
 use Rattle.create.specs.Basis.{elevated, bezierSegment, quadraticSpline, cubicSpline, splineSegment, segmentAt}
 use Rattle.create.specs.Create.{partCount, allWithin, leastWidth, greatestWidth, ratio}
-use Rattle.create.proofs.Within.{all-at}
 
 -- ---- coordinates: the conversions keep the points' limit
 
@@ -82,7 +81,7 @@ module _ (l : List Float) (inside : allWithin l ≡ true) where
   point at h = near (coordinate at (omega arith)) (coordinate (at + 1) (omega arith)) (coordinate (at + 2) (omega arith))
     where
       coordinate : (i : ℕ) → i < length l → Most (getD l i nan) largest
-      coordinate i h = unfold within ofBits in most-of _ (plain _ _) (all-at l i h inside)
+      coordinate i h = unfold allWithin within ofBits in most-of _ (plain _ _) (all-at (length l) (λ j. within (getD l j nan) largest) inside i h)
 
   pub segment-within : (degree basis at : ℕ) → 2 ≤ degree → degree ≤ 3 → at + (3 * degree + 3) ≤ length l → cubicWithin (segmentAt l degree basis at) farthest ≡ true
   unfolding segmentAt bezierSegment splineSegment quadraticSpline cubicSpline

@@ -1,13 +1,15 @@
 -- create_curve_shape and create_curve of src/shapes/curve.rs (01: laying). Definitions only.
 use Prim.Native.Nat.{ℕ, _+_, _-_, _*_, _/_, _%_, _^_}
-use mathlib.Core.Bool.{Bool, true, cond, not, _&&_, _||_}
+use mathlib.Core.Bool.{Bool, cond, not, _&&_, _||_}
 use mathlib.Core.List.{List, [], _∷_}
 use lib.Dec.{eqb, leb, ltb}
 use lib.IntN.{ℤ, pos, natAbs, _-ℤ_}
-use lib.ListN.{length}
-use lib.Ieee.{Float, binary32, ofInt, ofBits}
+use lib.ListN.{length, getD}
+use lib.Ieee.{Float, nan, binary32, ofInt, ofBits}
 use Rattle.float.specs.Arith.{_⊘_}
 use Rattle.geometry.specs.Pbrt.{lerpOf}
+use Rattle.geometry.specs.Point.{pointFrom, pointsEqual}
+use Rattle.limits.specs.Below.{allBelow}
 use Rattle.limits.specs.List.{over, upTo}
 use Rattle.limits.specs.Refusal.{Table, firstOf, told}
 use Rattle.curve.specs.Layout.{floats, curveFloats}
@@ -49,10 +51,17 @@ curveCount n p = segmentCount n (p .degree) (p .basis) * partCount (p .splitdept
 
 -- ---- refusals
 
+-- point i, of three floats, equals the next one
+unfoldable pub equalsNext : List Float → ℕ → Bool
+equalsNext l i = pointsEqual (pointFrom l (3 * i)) (pointFrom l (3 * i + 3))
+
+-- no point equals the next one: what passes 22
+unfoldable pub neighboursDiffer : List Float → Bool
+neighboursDiffer l = allBelow (length l / 3 - 1) (λ i. not (equalsNext l i))
+
 -- every coordinate is finite and within ±1,048,576
 unfoldable pub allWithin : List Float → Bool
-allWithin [] = true
-allWithin (x ∷ l) = within x largest && allWithin l
+allWithin l = allBelow (length l) (λ i. within (getD l i nan) largest)
 
 -- 1/1024 and 1,024
 abbrev pub leastWidth : Float
@@ -77,12 +86,13 @@ limitRefusals l p room =
     let n = length l / 3 in
     (ltb mostPoints n || ltb mostCurves (curveCount n p), 6) ∷ (limitWrong l (p .width0) (p .width1), 7) ∷ (ltb room (floats * curveCount n p), 8) ∷ []
 
--- 1 to 8
+-- 1 to 3, 22, and 4 to 8
 unfoldable pub createRefusals : List Float → Params → ℕ → Table
 createRefusals l p room =
     (not (eqb (p .degree) 2 || eqb (p .degree) 3), 1)
     ∷ (ltb 1 (p .basis), 2)
     ∷ (countWrong (length l) (p .degree) (p .basis), 3)
+    ∷ (not (neighboursDiffer l), 22)
     ∷ (not (eqb (p .ty) 0), 4)
     ∷ (ltb 10 (p .splitdepth), 5)
     ∷ limitRefusals l p room

@@ -1,10 +1,12 @@
-// Refusals 1 to 8 of create_curve_shape, in their order.
+// Refusals 1 to 8 and 22 of create_curve_shape, in their order.
 ghost use mathlib.Core.Path.{_≡_};
-ghost use Prim.Native.Nat.{_-_, _≤_};
-ghost use Rattle.create.specs.Create.{countWrong, segmentCount, partCount, curveCount, allWithin, limitWrong, limitRefusals, createRefusals};
+ghost use Prim.Native.Nat.{_+_, _-_, _*_, _≤_};
+ghost use lib.ListN.{length};
+ghost use Rattle.create.specs.Create.{countWrong, segmentCount, partCount, curveCount, equalsNext, neighboursDiffer, allWithin, limitWrong, limitRefusals, createRefusals};
 ghost use Rattle.limits.specs.Refusal.{firstOf};
 use crate::create::Params;
 use curve::FLOATS;
+use geometry::point_from;
 use limits::LARGEST;
 use limits::is_width_within;
 use limits::is_within;
@@ -56,6 +58,30 @@ pub fn part_count(splitdepth: u32) -> u16
     ensures { λ r. ⌜ r ≡ partCount splitdepth ⌝ }
 {
     1u16 << splitdepth
+}
+
+// Whether point i equals the next one.
+fn equals_next(points: &[f32], i: usize) -> bool
+    requires { ⌜ 3 * i + 6 ≤ length (now points) ⌝ }
+    ensures { λ r. ⌜ r ≡ equalsNext (now (points .entry)) i ⌝ }
+{
+    let at = 3 * i;
+    point_from(points, at).eq(point_from(points, at + 3))
+}
+
+// Whether no point equals the next one.
+fn neighbours_differ(points: &[f32]) -> bool
+    ensures { λ r. ⌜ r ≡ neighboursDiffer (now (points .entry)) ⌝ }
+{
+    let pairs = less(points.len() / 3, 1);
+    let mut i = 0usize;
+    while i < pairs {
+        if equals_next(points, i) {
+            return false;
+        }
+        i += 1;
+    }
+    true
 }
 
 fn is_all_within(points: &[f32]) -> bool
@@ -126,6 +152,9 @@ pub fn refusal(points: &[f32], p: Params, room: usize) -> u8
     }
     if is_count_wrong(points.len(), degree, p.basis) {
         return 3;
+    }
+    if !neighbours_differ(points) {
+        return 22;
     }
     if p.ty != 0 {
         return 4;

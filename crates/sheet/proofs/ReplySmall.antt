@@ -1,6 +1,6 @@
--- The curves of an accepted sheet are at most 1,024, and a refusal's number is at most 18. Assumes nothing.
-use mathlib.Core.Bool.{Bool, true, false, cond, _&&_, _||_, and-eq-true-iff}
-use mathlib.Core.List.{List, [], _∷_}
+-- The curves of an accepted sheet are at most 1,024, and a refusal's number is at most 22. Assumes nothing.
+use mathlib.Core.Bool.{Bool, true, false, cond, _||_}
+use mathlib.Core.List.{List}
 use mathlib.Core.Path.{_≡_, refl, subst}
 use Prim.Native.Nat.{ℕ, zero, suc, _/_, _≤_}
 use native.Mathlib.Omega.{arith}
@@ -9,8 +9,8 @@ use lib.Dec.{leb, ltb, lit≤}
 use lib.Ieee.{Float}
 use lib.ListN.{length}
 use Rattle.limits.specs.List.{over}
-use Rattle.limits.specs.Refusal.{Table, firstOf, told}
-use Rattle.limits.proofs.Refusals.{passed}
+use Rattle.limits.specs.Refusal.{firstOf, told}
+use Rattle.limits.proofs.Refusals.{passed, first-passes}
 use Rattle.create.specs.Create.{mostPoints, mostCurves, curveCount, limitRefusals, createRefusals, createdOf}
 use Rattle.create.specs.declared.create.Created.{Created}
 use Rattle.create.specs.declared.create.Created.the-variants as created
@@ -18,35 +18,20 @@ use Rattle.create.specs.declared.create.Params.{Params}
 use Rattle.grammar.specs.Grammar.{mostBytes}
 use Rattle.grammar.specs.Head.{headOf}
 use Rattle.grammar.specs.declared.head.Head.{Head}
-use Rattle.sheet.specs.Sheet.{rayCount, isWhole, pointsOf, raysOf, noRays, refusedWith, paramsIn, withCurves, sheetWithin, sheetOf}
+use Rattle.sheet.specs.Sheet.{lastNumber, rayCount, isWhole, pointsOf, raysOf, noRays, refusedWith, paramsIn, withCurves, sheetWithin, sheetOf}
 use Rattle.sheet.specs.declared.Reply.{Reply}
 use Rattle.sheet.specs.declared.Reply.the-variants.{Accepted, Refused}
 use Rattle.sheet.specs.declared.Sheet.{Sheet}
-
--- no number of a table is above the most
-abbrev numbersWithin : ℕ → Table → Bool
-numbersWithin most [] = true
-numbersWithin most (row ∷ rest) = leb (row .1) most && numbersWithin most rest
-
--- so the first that holds has none above it
-first-most : (most : ℕ) (t : Table) → numbersWithin most t ≡ true → firstOf t ≤ most
-unfolding firstOf
-first-most most [] h = omega arith
-first-most most (row ∷ rest) h = let both = and-eq-true-iff (leb (row .1) most) (numbersWithin most rest) .0 h in go (row .0) (leb-true _ _ (both .0)) (first-most most rest (both .1))
-  where
-    go : (b : Bool) → row .1 ≤ most → firstOf rest ≤ most → cond b (row .1) (firstOf rest) ≤ most
-    go true p q = p
-    go false p q = q
 
 -- ---- of create_curve_shape
 
 abbrev CreatedBounded : Created → Type 0
 CreatedBounded (created.Curves pieces) = pieces ≤ mostCurves
-CreatedBounded (created.Refused number) = number ≤ 18
+CreatedBounded (created.Refused number) = number ≤ lastNumber
 
 module _ (l : List Float) (p : Params) (room : ℕ) where
-  told-most : firstOf (createRefusals l p room) ≤ 18
-  told-most = first-most 18 (createRefusals l p room) (unfold createRefusals limitRefusals in refl)
+  told-most : firstOf (createRefusals l p room) ≤ lastNumber
+  told-most = leb-true _ _ (first-passes (λ k. leb k lastNumber) (createRefusals l p room) refl (unfold createRefusals limitRefusals in refl))
 
   either-false : (a b : Bool) → a || b ≡ false → b ≡ false
   either-false true b e = absurd (let z : _≡_ {A = ℕ} 0 1 = cc in omega arith)
@@ -55,14 +40,14 @@ module _ (l : List Float) (p : Params) (room : ℕ) where
   made-most : firstOf (createRefusals l p room) ≡ 0 → curveCount (length l / 3) p ≤ mostCurves
   unfolding createRefusals limitRefusals
   made-most e =
-      let r = passed _ 4 _ (passed _ 3 _ (passed _ 2 _ (passed _ 1 _ (passed _ 0 _ e .1) .1) .1) .1) .1 in
+      let r = passed _ 4 _ (passed _ 3 _ (passed _ 21 _ (passed _ 2 _ (passed _ 1 _ (passed _ 0 _ e .1) .1) .1) .1) .1) .1 in
       ltb-false _ _ (either-false (ltb mostPoints (length l / 3)) _ (passed _ 5 _ r .0))
 
   created-bounded : CreatedBounded (createdOf l p room)
   unfolding createdOf
   created-bounded = go (firstOf (createRefusals l p room)) told-most made-most
     where
-      go : (k : ℕ) → k ≤ 18 → (k ≡ 0 → curveCount (length l / 3) p ≤ mostCurves) → CreatedBounded (told created.Refused k (created.Curves (curveCount (length l / 3) p)))
+      go : (k : ℕ) → k ≤ lastNumber → (k ≡ 0 → curveCount (length l / 3) p ≤ mostCurves) → CreatedBounded (told created.Refused k (created.Curves (curveCount (length l / 3) p)))
       go zero h few = few refl
       go (suc k) h few = h
 
@@ -70,7 +55,7 @@ module _ (l : List Float) (p : Params) (room : ℕ) where
 
 abbrev Bounded : Reply → Type 0
 Bounded (Accepted pieces reverse n) = pieces ≤ mostCurves
-Bounded (Refused number line) = number ≤ 18
+Bounded (Refused number line) = number ≤ lastNumber
 
 bounded-either : (b : Bool) (x y : Sheet) → Bounded (x .reply) → Bounded (y .reply) → Bounded (cond b x y .reply)
 bounded-either true x y p q = p
@@ -93,5 +78,5 @@ bounded l room =
 pub curves-most : (l : List ℕ) (room pieces n : ℕ) (reverse : Bool) → sheetOf l room .reply ≡ Accepted pieces reverse n → pieces ≤ mostCurves
 curves-most l room pieces n reverse e = subst Bounded e (bounded l room)
 
-pub number-most : (l : List ℕ) (room number line : ℕ) → sheetOf l room .reply ≡ Refused number line → number ≤ 18
+pub number-most : (l : List ℕ) (room number line : ℕ) → sheetOf l room .reply ≡ Refused number line → number ≤ lastNumber
 number-most l room number line e = subst Bounded e (bounded l room)

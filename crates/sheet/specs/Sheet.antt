@@ -105,6 +105,10 @@ listOf l list = cond (ltb mostBytes (length l)) list (listWithin l list)
 
 -- ---- for callers
 
+-- the largest number by which a sheet is refused
+abbrev pub lastNumber : ℕ
+lastNumber = 22
+
 -- the last line that can be wrong: before it come the seven lines of the head, the points and the rays
 abbrev pub lastLine : ℕ
 lastLine = 7 + roomPoints + mostRays + 1

@@ -25,15 +25,19 @@ returns-4 c = rw (degree-right _ (c .before .before .before .before .before .if1
 
 returns-5 : tie.Need-returns-5
 unfolding firstOf createRefusals
-returns-5 c = rw (degree-right _ (c .before .before .before .before .before .before .before .if1 .left) (c .before .before .before .before .before .before .if2 .left), le-ltb _ _ (c .before .before .before .before .if3 .left), ← c .before .before .before .is-count-wrong .ensures, c .before .before .if4 .left, ne-eqb _ _ (c .if5 .taken))
+returns-5 c = rw (degree-right _ (c .before .before .before .before .before .before .before .if1 .left) (c .before .before .before .before .before .before .if2 .left), le-ltb _ _ (c .before .before .before .before .if3 .left), ← c .before .before .before .is-count-wrong .ensures, c .before .before .if4 .left, ← c .before .neighbours-differ .ensures, c .if5 .taken)
 
 returns-6 : tie.Need-returns-6
 unfolding firstOf createRefusals
-returns-6 c = rw (degree-right _ (c .before .before .before .before .before .before .before .before .before .if1 .left) (c .before .before .before .before .before .before .before .before .if2 .left), le-ltb _ _ (c .before .before .before .before .before .before .if3 .left), ← c .before .before .before .before .before .is-count-wrong .ensures, c .before .before .before .before .if4 .left, eq-eqb _ _ (c .before .before .if5 .left), lt-ltb _ _ (c .if6 .taken))
+returns-6 c = rw (degree-right _ (c .before .before .before .before .before .before .before .before .before .if1 .left) (c .before .before .before .before .before .before .before .before .if2 .left), le-ltb _ _ (c .before .before .before .before .before .before .if3 .left), ← c .before .before .before .before .before .is-count-wrong .ensures, c .before .before .before .before .if4 .left, ← c .before .before .before .neighbours-differ .ensures, c .before .before .if5 .left, ne-eqb _ _ (c .if6 .taken))
 
 returns-7 : tie.Need-returns-7
 unfolding firstOf createRefusals
-returns-7 c = rw (degree-right _ (c .before .before .before .before .before .before .before .before .before .before .if1 .left) (c .before .before .before .before .before .before .before .before .before .if2 .left), le-ltb _ _ (c .before .before .before .before .before .before .before .if3 .left), ← c .before .before .before .before .before .before .is-count-wrong .ensures, c .before .before .before .before .before .if4 .left, eq-eqb _ _ (c .before .before .before .if5 .left), le-ltb _ _ (c .before .if6 .left), ← c .limit-refusal .ensures)
+returns-7 c = rw (degree-right _ (c .before .before .before .before .before .before .before .before .before .before .before .if1 .left) (c .before .before .before .before .before .before .before .before .before .before .if2 .left), le-ltb _ _ (c .before .before .before .before .before .before .before .before .if3 .left), ← c .before .before .before .before .before .before .before .is-count-wrong .ensures, c .before .before .before .before .before .before .if4 .left, ← c .before .before .before .before .before .neighbours-differ .ensures, c .before .before .before .before .if5 .left, eq-eqb _ _ (c .before .before .if6 .left), lt-ltb _ _ (c .if7 .taken))
+
+returns-8 : tie.Need-returns-8
+unfolding firstOf createRefusals
+returns-8 c = rw (degree-right _ (c .before .before .before .before .before .before .before .before .before .before .before .before .if1 .left) (c .before .before .before .before .before .before .before .before .before .before .before .if2 .left), le-ltb _ _ (c .before .before .before .before .before .before .before .before .before .if3 .left), ← c .before .before .before .before .before .before .before .before .is-count-wrong .ensures, c .before .before .before .before .before .before .before .if4 .left, ← c .before .before .before .before .before .before .neighbours-differ .ensures, c .before .before .before .before .before .if5 .left, eq-eqb _ _ (c .before .before .before .if6 .left), le-ltb _ _ (c .before .if7 .left), ← c .limit-refusal .ensures)
 
 pub refusal-spec : {M : Type 1} → statement M
-refusal-spec = tie.close (tie.spec returns returns-2 returns-3 (λ c κs. search needs) returns-4 returns-5 returns-6 (λ c κs. search needs) returns-7)
+refusal-spec = tie.close (tie.spec returns returns-2 returns-3 (λ c κs. search needs) returns-4 (λ c κs. tt) returns-5 returns-6 returns-7 (λ c κs. search needs) returns-8)
