@@ -233,6 +233,19 @@ class Lines(Beltbeam):
         self.check_refused(STRAIGHT.replace(b"flat\n", b"flax\n"), 3, "expected type=flat, ribbon or cylinder")
 
 
+class Laying(Beltbeam):
+    def test_refusals(self) -> None:
+        doubled = STRAIGHT.replace(b"point=3f8", b"point=bf8")
+        for sheet, number, words in (
+            (STRAIGHT.replace(b"degree=3", b"degree=4"), 1, "the degree is not 2 or 3"),
+            (doubled, 22, "two neighbouring points are equal"),
+            (doubled.replace(b"flat", b"ribbon"), 22, "two neighbouring points are equal"),
+        ):
+            done = beltbeam(sheet)
+            self.assertEqual(done.stdout.decode(), f"refused={number} line=0\n")
+            self.assertEqual(done.stderr.decode(), f"{words}\n")
+
+
 @unittest.skipUnless(shutil.which("cc"), "no C compiler is found, so no call can be interrupted")
 class Interrupted(Beltbeam):
     folder: tempfile.TemporaryDirectory

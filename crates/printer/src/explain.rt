@@ -43,6 +43,7 @@ fn say_limit(number: u8) {
         6 => say(b"there are over 256 points or over 1,024 pieces\n"),
         7 => say(b"a coordinate or a width is off limits\n"),
         18 => say(b"the sheet has over 65,536 bytes\n"),
+        22 => say(b"two neighbouring points are equal\n"),
         _ => say(b"the sheet is refused\n"),
     }
 }

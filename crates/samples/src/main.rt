@@ -41,6 +41,8 @@ fn run_refused_rays() {
 fn run_refused_curves() {
     run(b"refused_1.sheet");
     run(b"refused_3.sheet");
+    run(b"refused_22.sheet");
+    run(b"refused_22_before_4.sheet");
     run(b"refused_4.sheet");
     run(b"refused_4_before_5.sheet");
     run(b"split11.sheet");
