@@ -32,9 +32,9 @@ extern "C" {
 #endif
 
 /*
- * What a call returns. Of several reasons to refuse the first is told: by the numbers, but of a sheet 18 and 17 before
- * the others, of curve_nearest 19, 10 and 11 before those of a piece, and 12 and 13 in the order in which the ray's
- * frame meets them.
+ * What a call returns. Of several reasons to refuse the first is told: by the numbers, but of curve_create 22 behind 3
+ * and before 4, of a sheet 18 and 17 before the others, of curve_nearest 19, 10 and 11 before those of a piece, and 12
+ * and 13 in the order in which the ray's frame meets them.
  */
 enum {
     CURVE_DONE = 0,                     /* the answer is written */
@@ -64,7 +64,8 @@ enum {
     CURVE_REFUSED_SHEET_TOO_LONG = 18,  /* over 65,536 bytes */
     CURVE_REFUSED_LIST_LENGTH = 19,     /* it is no whole number of pieces */
     CURVE_REFUSED_RATE = 20,            /* it is over CURVE_MOST_RATE */
-    CURVE_REFUSED_PRICE = 21            /* it is over CURVE_MOST_CENTS */
+    CURVE_REFUSED_PRICE = 21,           /* it is over CURVE_MOST_CENTS */
+    CURVE_REFUSED_EQUAL_NEIGHBOURS = 22 /* two points in a row are equal: -0 equals 0, and a NaN nothing */
 };
 
 /* What curve_create takes. */
@@ -88,7 +89,7 @@ enum {
  * needs at least half of its figure.
  */
 enum {
-    CURVE_STACK_CREATE = 256,
+    CURVE_STACK_CREATE = 512,
     CURVE_STACK_OBJECT_BOUND = 256,
     CURVE_STACK_WORLD_BOUND = 512,
     CURVE_STACK_AREA = 256,
@@ -155,9 +156,9 @@ enum {
 };
 
 /*
- * Makes pieces of a curve and writes them to `list`, CURVE_FLOATS floats each. `points` has three floats a point.
- * degree: 2 or 3. basis: CURVE_BASIS_BEZIER or _BSPLINE. type: CURVE_TYPE_FLAT. Each segment yields 2^splitdepth
- * pieces. Answers 0 and sets *pieces, or one of 1 to 8.
+ * Makes pieces of a curve and writes them to `list`, CURVE_FLOATS floats each. `points` has three floats a point, and
+ * no point equals the next one. degree: 2 or 3. basis: CURVE_BASIS_BEZIER or _BSPLINE. type: CURVE_TYPE_FLAT. Each
+ * segment yields 2^splitdepth pieces. Answers 0 and sets *pieces, or one of 1 to 8 and 22.
  */
 uint32_t curve_create(const float *points, size_t len, uint32_t degree, uint32_t basis, uint32_t type,
                       float width0, float width1, uint32_t splitdepth, float *list, size_t list_len,
@@ -216,7 +217,7 @@ uint32_t curve_nearest(const float *list, size_t len, const float object_to_worl
 
 /*
  * Reads a belt sheet and writes its pieces to `list`.
- * Answers 0, sets out, and writes a ray a beam to `beams`, the rest 0; or 17 or 18, or one of 1 to 8, and then
+ * Answers 0, sets out, and writes a ray a beam to `beams`, the rest 0; or 17 or 18, or one of curve_create's, and then
  * leaves the list, the beams and the rest of out. out[CURVE_SHEET_LINE] is set with every reply: the wrong line,
  * from 1, with 17, else 0.
  */

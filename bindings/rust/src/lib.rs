@@ -195,11 +195,11 @@ pub struct Sheet {
     pub beams: Vec<Ray>,
 }
 
-/// Lays curves into the list, [`CURVE_FLOATS`] floats each, and answers how many.
+/// Lays curves into the list, [`CURVE_FLOATS`] floats each, and answers how many. No point may equal the next one.
 ///
 /// # Errors
 ///
-/// [`Refusal`] 1 and 3 to 8, and then the list is as it was.
+/// [`Refusal`] 1, 3, 22 and 4 to 8, in this order, and then the list is as it was.
 pub fn create_curve_shape(
     points: &[[f32; 3]],
     params: &Params,
@@ -377,7 +377,7 @@ fn accepted<T>(number: u32, value: T) -> Result<T, Refusal> {
 }
 
 fn refused(number: u32) -> Refusal {
-    Refusal::from_number(number).expect("the library answers 0 to 21")
+    Refusal::from_number(number).expect("the library answers 0 to 22")
 }
 
 /// The three floats at a place.

@@ -4,8 +4,8 @@ use std::error::Error;
 use std::fmt;
 
 /// Why a call was refused. Of several reasons the one that comes first in the call's order is told: by the
-/// numbers, and 12 and 13 as the ray's frame meets them. Of [`nearest`](crate::nearest) 19, 10 and 11 come before
-/// those of a curve.
+/// numbers, but 22 behind 3 and before 4, and 12 and 13 as the ray's frame meets them. Of
+/// [`nearest`](crate::nearest) 19, 10 and 11 come before those of a curve.
 #[derive(Clone, Copy, Debug, PartialEq, Eq, Hash)]
 pub enum Refusal {
     /// 1: the degree is not 2 or 3.
@@ -50,10 +50,12 @@ pub enum Refusal {
     Rate = 20,
     /// 21: the price is over [`MOST_CENTS`](crate::MOST_CENTS).
     Price = 21,
+    /// 22: two neighbouring points are equal in all three coordinates. -0 equals 0, and a NaN equals nothing.
+    EqualNeighbours = 22,
 }
 
 /// By number, from 1.
-const ALL: [Refusal; 21] = [
+const ALL: [Refusal; 22] = [
     Refusal::Degree,
     Refusal::Basis,
     Refusal::PointCount,
@@ -75,10 +77,11 @@ const ALL: [Refusal; 21] = [
     Refusal::ListLength,
     Refusal::Rate,
     Refusal::Price,
+    Refusal::EqualNeighbours,
 ];
 
 impl Refusal {
-    /// The number of the refusal, from 1 to 21.
+    /// The number of the refusal, from 1 to 22.
     pub fn number(self) -> u32 {
         self as u32
     }
@@ -121,6 +124,7 @@ impl fmt::Display for Refusal {
             Refusal::ListLength => "the length of the list is no whole number of curves",
             Refusal::Rate => "the rate is over 1,000,000 cents a square metre",
             Refusal::Price => "the price is over 1,000,000,000 cents",
+            Refusal::EqualNeighbours => "two neighbouring points are equal",
         })
     }
 }

@@ -1,6 +1,8 @@
 //! 01's straight belt, its beam, and lists.
 
-use curve::{Basis, CurveType, Params, Ray, CURVE_FLOATS, MOST_CURVES, UMAX, UMIN};
+use curve::{
+    Basis, CurveType, Params, Ray, CURVE_FLOATS, MOST_CURVES, POINTS, UMAX, UMIN, WIDTH0, WIDTH1,
+};
 
 pub const CUBIC_BEZIER: Params = Params {
     degree: 3,
@@ -37,21 +39,23 @@ pub fn marked_list() -> Vec<f32> {
     vec![MARK; CURVE_FLOATS * MOST_CURVES]
 }
 
-/// The one curve of four points.
+/// The one curve of four points, as laying writes it; also where neighbours are equal, which laying refuses.
 pub fn curve_of(points: &[[f32; 3]; 4], width: f32) -> [f32; CURVE_FLOATS] {
-    let params = Params {
-        width0: width,
-        width1: width,
-        ..CUBIC_BEZIER
-    };
-    let mut list = [MARK; CURVE_FLOATS];
-    assert_eq!(curve::create_curve_shape(points, &params, &mut list), Ok(1));
+    let mut curve = [0.0; CURVE_FLOATS];
+    curve[POINTS].copy_from_slice(points.as_flattened());
+    curve[WIDTH0..=WIDTH1].fill(width);
+    curve[UMAX] = 1.0;
 
-    list
+    curve
 }
 
+/// Laid.
 pub fn straight() -> [f32; CURVE_FLOATS] {
-    curve_of(&STRAIGHT, 1.0)
+    let mut list = [MARK; CURVE_FLOATS];
+    let answer = curve::create_curve_shape(&STRAIGHT, &CUBIC_BEZIER, &mut list);
+    assert_eq!(answer, Ok(1));
+
+    list
 }
 
 /// 01's belt of width 100, from z = 4 to 7, which a beam up goes along: refused by 15.

@@ -148,6 +148,80 @@ fn each_parameter_off_its_range_is_refused() {
     assert_laid(&points, &base, 1);
 }
 
+/// With point i set to the one before it.
+fn doubled(mut points: Vec<[f32; 3]>, i: usize) -> Vec<[f32; 3]> {
+    points[i] = points[i - 1];
+
+    points
+}
+
+#[test]
+fn equal_neighbours_are_refused() {
+    for (n, params) in [
+        (4, CUBIC_BEZIER),
+        (7, CUBIC_BEZIER),
+        (5, QUADRATIC_BEZIER),
+        (6, CUBIC_BSPLINE),
+    ] {
+        for i in 1..n {
+            assert_refused(&doubled(points(n), i), &params, Refusal::EqualNeighbours);
+        }
+    }
+}
+
+/// Two of three coordinates, or the points next but one, or the first and the last.
+#[test]
+fn points_that_are_not_quite_equal_neighbours_are_laid() {
+    for k in 0..3 {
+        let mut points = STRAIGHT;
+        points[1] = points[0];
+        points[1][k] += 0.5;
+        assert_laid(&points, &CUBIC_BEZIER, 1);
+    }
+    let [a, b, ..] = STRAIGHT;
+    assert_laid(&[a, b, a, b], &CUBIC_BEZIER, 1);
+    assert_laid(&[a, b, STRAIGHT[2], a], &CUBIC_BEZIER, 1);
+}
+
+#[test]
+fn zeros_of_either_sign_are_equal_and_a_nan_equals_nothing() {
+    let beside = |x: f32, y: f32| {
+        let mut points = STRAIGHT;
+        (points[1], points[2]) = ([x, 0.0, 4.0], [y, -0.0, 4.0]);
+
+        points
+    };
+    for (x, y) in [
+        (0.0, -0.0),
+        (1e-45, 1e-45),
+        (f32::INFINITY, f32::INFINITY),
+        (2e6, 2e6),
+    ] {
+        assert_refused(&beside(x, y), &CUBIC_BEZIER, Refusal::EqualNeighbours);
+    }
+    assert_laid(&beside(0.0, 1e-45), &CUBIC_BEZIER, 1);
+    for (x, y) in [(f32::NAN, f32::NAN), (f32::INFINITY, f32::NEG_INFINITY)] {
+        assert_refused(&beside(x, y), &CUBIC_BEZIER, Refusal::PointsOrWidths);
+    }
+}
+
+/// Behind a wrong count and before all else.
+#[test]
+fn equal_neighbours_come_behind_3_and_before_4() {
+    let wrong = Params {
+        curve_type: CurveType::Ribbon,
+        splitdepth: 11,
+        width0: f32::NAN,
+        ..CUBIC_BEZIER
+    };
+    let refusal = Refusal::EqualNeighbours;
+    assert_refused(&doubled(points(5), 1), &wrong, Refusal::PointCount);
+    assert_refused(&doubled(points(4), 3), &wrong, refusal);
+    assert_refused(&doubled(points(301), 300), &wrong, refusal);
+    let answer = create_curve_shape(&doubled(points(4), 1), &CUBIC_BEZIER, &mut []);
+    assert_eq!(answer, Err(refusal));
+}
+
 #[test]
 fn over_256_points_are_too_many() {
     assert_laid(&points(256), &CUBIC_BEZIER, 85);

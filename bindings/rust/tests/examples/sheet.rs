@@ -87,6 +87,8 @@ fn laying_refuses_without_a_line() {
         0,
     );
     assert_refused(&WHOLE_CASE.replace("flat", "ribbon"), Refusal::Type, 0);
+    let doubled = WHOLE_CASE.replace("point=3f8", "point=bf8");
+    assert_refused(&doubled, Refusal::EqualNeighbours, 0);
     let mut short = [MARK; CURVE_FLOATS - 1];
     let answer = read_sheet(WHOLE_CASE.as_bytes(), &mut short);
     assert_eq!(answer.map_err(|told| told.refusal.number()), Err(8));
