@@ -1,4 +1,4 @@
-"""Why laying refuses a sheet (document 01), and the line that shows it."""
+"""Why laying refuses a sheet (documents 01 and 02), and the line that shows it."""
 
 from dataclasses import dataclass
 
@@ -34,10 +34,11 @@ def check(name: str, sheet: Sheet) -> None:
 
 
 def refusal_of(sheet: Sheet) -> Refusal | None:
-    """The first refusal that holds, by the order of document 01."""
+    """The first refusal that holds, by the order of the documents: 22 comes behind 3."""
     tests = (
         wrong_degree,
         broken_segments,
+        equal_neighbours,
         wrong_type,
         deep_split,
         too_many,
@@ -63,6 +64,14 @@ def broken_segments(sheet: Sheet) -> Refusal | None:
     count = len(sheet.points)
     detail = f"; {counted(count, 'point')}, expected {expected}"
     return Refusal(3, row_of("point", count - 1), detail)
+
+
+def equal_neighbours(sheet: Sheet) -> Refusal | None:
+    """The first point that equals the one before it."""
+    for place in range(1, len(sheet.points)):
+        if is_equal(sheet.points[place - 1], sheet.points[place]):
+            return Refusal(22, row_of("point", place), "; this one and the one before it")
+    return None
 
 
 def wrong_type(sheet: Sheet) -> Refusal | None:
@@ -116,6 +125,11 @@ def segment_count(sheet: Sheet, count: int) -> int:
     if sheet.basis == "bezier":
         return (count - 1) // sheet.degree
     return count - sheet.degree
+
+
+def is_equal(point: Floats, other: Floats) -> bool:
+    """Whether all coordinates are equal: -0 equals 0, and a NaN equals nothing."""
+    return all(float_of_bits(one) == float_of_bits(two) for one, two in zip(point, other))
 
 
 def is_within(point: Floats) -> bool:

@@ -22,11 +22,12 @@ REASONS = {
     19: "the list is no whole number of pieces",
     20: "the rate is over 1,000,000 cents a square metre",
     21: "the price is over 1,000,000,000 cents",
+    22: "two neighbouring points are equal",
 }
 
 # Which of them are told of a beam, and which of a whole sheet; one of these comes with a line.
 OF_BEAM = range(9, 17)
-OF_SHEET = [*range(1, 9), 17, 18]
+OF_SHEET = [*range(1, 9), 17, 18, 22]
 WRONG_LINE = 17
 
 

@@ -68,9 +68,11 @@ class Metres(unittest.TestCase):
             self.assertAlmostEqual(belt.metre(0, u), 6 * u, places=12)
 
     def test_a_straight_belt_in_space_with_uneven_speed(self) -> None:
-        belt = belt_of(HEAD + points((0, 0, 0), (0, 0, 0), (1, 2, 2), (1, 2, 2)))
+        inner = ((0.125, 0.25, 0.25), (0.875, 1.75, 1.75))
+        belt = belt_of(HEAD + points((0, 0, 0), *inner, (1, 2, 2)))
         self.assertAlmostEqual(belt.length, 3, places=12)
-        self.assertAlmostEqual(belt.metre(0, 0.25), 3 * (3 * 0.25**2 - 2 * 0.25**3), places=12)
+        part = 3 * 0.75**2 * 0.25 * 0.125 + 3 * 0.75 * 0.25**2 * 0.875 + 0.25**3
+        self.assertAlmostEqual(belt.metre(0, 0.25), 3 * part, places=12)
 
     def test_a_belt_that_turns_back_counts_both_ways(self) -> None:
         # x = 4 * u * (1 - u): to 1 and back.

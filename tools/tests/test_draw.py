@@ -470,7 +470,7 @@ beam=-1e6,0,4,1,0,0,inf,0
 class Degenerate(unittest.TestCase):
     SHEETS = {
         "one point": HEAD + "point=1,2,3\n" + UP,
-        "no length": HEAD + 4 * "point=1,2,3\n" + UP,
+        "on end": HEAD + "point=1,2,3\npoint=1,2,4\npoint=1,2,6\npoint=1,2,7\n" + UP,
         "no beams": HEAD + STRAIGHT_POINTS,
         "tiny": HEAD + "point=0,0,0\npoint=1e-40,0,0\npoint=1e-40,1e-40,0\npoint=0,0,1e-40\n" + UP,
         "far": HEAD + STRAIGHT_POINTS.replace(",0,4", ",1000000,-1000000") + UP,

@@ -9,6 +9,12 @@ from beltlib.sheet import read_decimal
 
 BELT = HEAD + STRAIGHT_POINTS
 ZERO = "point=0,0,0\n"
+FINISHED = HEAD.replace("width0=1", "width0=3f800000").replace("width1=1", "width1=3f800000")
+
+
+def along(count: int) -> str:
+    """So many points along x."""
+    return "".join(f"point={place},0,0\n" for place in range(count))
 
 
 class Laying(unittest.TestCase):
@@ -29,8 +35,8 @@ class Laying(unittest.TestCase):
         self.accept(BELT)
         self.accept(HEAD + ZERO)
         self.accept(BELT.replace("splitdepth=0", "splitdepth=10"))
-        self.accept(HEAD + 256 * ZERO)
-        self.accept(HEAD.replace("bezier", "bspline").replace("th=0", "th=2") + 256 * ZERO)
+        self.accept(HEAD + along(256))
+        self.accept(HEAD.replace("bezier", "bspline").replace("th=0", "th=2") + along(256))
         self.accept(BELT.replace("-3,0,4", "-1048576,0,1048576"))
         self.accept(BELT.replace("width0=1", "width0=1024").replace("th1=1", "th1=0.0009765625"))
 
@@ -49,6 +55,26 @@ class Laying(unittest.TestCase):
         square = spline.replace("degree=3", "degree=2")
         self.refuse(square + ZERO, f"in:8: {reason}; 1 point, expected at least 3$")
 
+    def test_equal_neighbours(self) -> None:
+        told = "refused 22: two neighbouring points are equal; this one and the one before it$"
+        points = STRAIGHT_POINTS.splitlines(keepends=True)
+        for place in range(1, 4):
+            doubled = points[:place] + [points[place - 1]] + points[place + 1 :]
+            self.refuse(HEAD + "".join(doubled), f"in:{8 + place}: {told}")
+        self.refuse(HEAD.replace("bezier", "bspline") + 4 * ZERO, f"in:9: {told}")
+        self.refuse(BELT.replace("-3,0,4", "-1,-0,4"), f"in:9: {told}")
+        infinite = BELT.replace("-3,0,4", "inf,0,4")
+        self.refuse(infinite.replace("-1,0,4", "inf,0,4"), f"in:9: {told}")
+
+    def test_neighbours_that_differ(self) -> None:
+        for point in ("-3,0,4.0001", "-3,1e-45,4", "-3.0001,0,4", "3,0,4"):
+            self.accept(BELT.replace("point=-1,0,4", f"point={point}"))
+        self.accept(BELT.replace("point=3,0,4", "point=-3,0,4"))
+        infinite = BELT.replace("-3,0,4", "inf,0,4")
+        self.refuse(infinite.replace("-1,0,4", "-inf,0,4"), "in:8: refused 7:")
+        nans = 4 * "point=7fc00000,00000000,00000000\n"
+        self.refuse(FINISHED + nans, "in:8: refused 7:")
+
     def test_a_type(self) -> None:
         for word in ("ribbon", "cylinder"):
             self.change("flat", word, "in:3: refused 4: the type is not flat$")
@@ -59,14 +85,14 @@ class Laying(unittest.TestCase):
 
     def test_too_many_points(self) -> None:
         reason = "refused 6: there are over 256 points or over 1,024 pieces"
-        self.refuse(HEAD + 259 * ZERO, f"in:264: {reason}; this is point 257$")
+        self.refuse(HEAD + along(259), f"in:264: {reason}; this is point 257$")
 
     def test_too_many_pieces(self) -> None:
         reason = "refused 6: there are over 256 points or over 1,024 pieces"
         found = "up to this point there are 2,048 pieces$"
         deep = HEAD.replace("splitdepth=0", "splitdepth=10")
-        self.refuse(deep + 10 * ZERO, f"in:14: {reason}; {found}")
-        self.refuse(deep.replace("bezier", "bspline") + 7 * ZERO, f"in:12: {reason}; {found}")
+        self.refuse(deep + along(10), f"in:14: {reason}; {found}")
+        self.refuse(deep.replace("bezier", "bspline") + along(7), f"in:12: {reason}; {found}")
 
     def test_coordinates_and_widths(self) -> None:
         reason = "refused 7: a coordinate is not within 1,048,576 of zero, or a width is outside"
@@ -75,13 +101,14 @@ class Laying(unittest.TestCase):
             self.change("width1=1", f"width1={wrong}", f"in:5: {reason}")
         for wrong in ("inf", "-inf", "1048576.1", "-1e9"):
             self.change("point=1,0,4", f"point=1,0,{wrong}", f"in:10: {reason}")
-        nan = "degree=3\nbasis=bezier\ntype=flat\nwidth0=3f800000\nwidth1=7fc00000\nsplitdepth=0\n"
-        self.refuse(nan + "reverse=0\npoint=00000000,00000000,00000000\n", f"in:5: {reason}")
+        nan = FINISHED.replace("width1=3f800000", "width1=7fc00000")
+        self.refuse(nan + "point=00000000,00000000,00000000\n", f"in:5: {reason}")
 
-    def test_the_first_of_several_by_number(self) -> None:
+    def test_the_first_of_several_in_their_order(self) -> None:
         rows = [
             ("degree=3", "degree=4", 1),
             ("point=1,0,4\n", "", 3),
+            ("point=-1,0,4", "point=-3,0,4", 22),
             ("type=flat", "type=ribbon", 4),
             ("splitdepth=0", "splitdepth=11", 5),
             ("width0=1", "width0=-1", 7),
@@ -91,7 +118,8 @@ class Laying(unittest.TestCase):
             for right, wrong, _ in rows[first:]:
                 text = text.replace(right, wrong)
             self.refuse(text, f"in:[0-9]+: refused {rows[first][2]}:")
-        self.refuse(HEAD.replace("width0=1", "width0=-1") + 259 * ZERO, "in:264: refused 6:")
+        self.refuse(HEAD.replace("width0=1", "width0=-1") + along(259), "in:264: refused 6:")
+        self.refuse(HEAD + 259 * ZERO, "in:9: refused 22:")
 
     def test_lines_are_those_of_the_file(self) -> None:
         text = "# words\n\n" + BELT.replace("\n", "  # words\n\n")
