@@ -43,12 +43,12 @@ pub fn beam(rng: &mut Rng) -> Beam {
     }
 }
 
-/// One for a branch or a refusal that needs no matrix but the identity.
+/// One for a branch or a refusal that needs no matrix but the identity, and whose piece may be laid.
 pub fn without_matrices(rng: &mut Rng) -> Beam {
     let make = rng.pick(&[
         at_origin,
         at_origin,
-        at_turning_point,
+        at_quarter_turn,
         along_tangent,
         tiny_belt,
         tiny_direction,
@@ -541,10 +541,20 @@ pub fn at_origin(rng: &mut Rng) -> Beam {
 
 /// The belt runs out and back over itself: where it turns, the derivative and the chord are zero.
 fn at_turning_point(rng: &mut Rng) -> Beam {
+    out_and_back(rng, [0.0, 1.0, 1.0, 0.0], 0.75)
+}
+
+/// The same without equal neighbours: the belt turns at u = 1/4, and once more behind.
+fn at_quarter_turn(rng: &mut Rng) -> Beam {
+    out_and_back(rng, [0.0, 5.0, -3.0, 0.0], 1.6875)
+}
+
+/// A belt on a line, its points so many steps out, and a beam at where it turns.
+fn out_and_back(rng: &mut Rng, steps: [f32; 4], turn: f32) -> Beam {
     let along = axis(rng);
     let a: Triple = [round(rng), round(rng), round(rng)];
     let out: Triple = [round(rng), round(rng), round(rng)];
-    let b: Triple = std::array::from_fn(|k| a[k] + out[k]);
+    let stepped = |by: f32| triple(|k| a[k] + by * out[k]);
     let width = pow2(rng.between(-8, 5));
     let ends = [
         [0.0, 1.0],
@@ -553,8 +563,8 @@ fn at_turning_point(rng: &mut Rng) -> Beam {
         [0.25, 0.5],
         [0.25, 0.75],
     ];
-    let piece = piece::from_parts(&[a, b, b, a], [width; 2], rng.pick(&ends));
-    let turn: Triple = std::array::from_fn(|k| a[k] + 0.75 * out[k]);
+    let piece = piece::from_parts(&steps.map(stepped), [width; 2], rng.pick(&ends));
+    let turn = stepped(turn);
     let outward = normal(out.map(f64::from)).map(|x| x as f32);
     let past = rng.pick(&[0.0, 0.125, 0.25, 0.375]) * width;
     let distance = 1.0 + rng.below(64) as f32;

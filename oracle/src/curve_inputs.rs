@@ -3,7 +3,7 @@
 use crate::inputs::{aimed, matrix, Triple, LAST_ROW};
 use crate::kinds::curve_of;
 use crate::layout::{CURVE_FLOATS, POINTS, UMAX, UMIN, WIDTH0, WIDTH1};
-use crate::limits::ShapeParams;
+use crate::limits::{has_equal_neighbours, ShapeParams};
 use crate::piece::{self, Piece};
 use crate::rng::{neighbour, pow2, Rng};
 use crate::words::{put, Words};
@@ -236,6 +236,55 @@ fn edge_parameters(rng: &mut Rng) -> [f32; 2] {
     }
 }
 
+/// The coordinates of n points to lay.
+pub fn laid_points(rng: &mut Rng, n: u32) -> Vec<f32> {
+    let floats = points(rng, n, &LAID);
+
+    mostly_parted(rng, floats)
+}
+
+/// Mostly each point that equals the one before it is moved, by one coordinate and as little as can be.
+pub fn mostly_parted(rng: &mut Rng, mut floats: Vec<f32>) -> Vec<f32> {
+    if rng.one_in(8) {
+        return floats;
+    }
+    for at in (3..floats.len()).step_by(3) {
+        if has_equal_neighbours(&floats[at - 3..at + 3]) {
+            let x = rng.one_of(&mut floats[at..at + 3]);
+            *x = neighbour(*x, if *x == 0.0 { 1 } else { -1 });
+        }
+    }
+
+    floats
+}
+
+/// Sets a point, often the second or the last, to the one before it, and then now and then keeps the two apart.
+pub fn double(rng: &mut Rng, floats: &mut [f32]) {
+    let n = floats.len() / 3;
+    if n < 2 {
+        return;
+    }
+    let i = match rng.below(4) {
+        0 => 1,
+        1 => n - 1,
+        _ => 1 + rng.below(n as u32 - 1) as usize,
+    };
+    floats.copy_within(3 * i - 3..3 * i, 3 * i);
+    let at = 3 * i + rng.below(3) as usize;
+    let both = match rng.below(16) {
+        // In two coordinates alone, by much or by little.
+        0 | 1 => [floats[at], rng.moderate()],
+        2 | 3 => [floats[at], neighbour(floats[at], 1)],
+        4 | 5 => rng.zeros(),
+        6 => [f32::NAN; 2],
+        7 => [rng.special(), rng.special()],
+        8 => [rng.signed(f32::INFINITY); 2],
+        9 => [neighbour(rng.signed(LAID.coordinate), 1); 2],
+        _ => return,
+    };
+    [floats[at - 3], floats[at]] = both;
+}
+
 pub fn create_curve_shape(rng: &mut Rng, words: &mut Words) {
     let degree = 2 + rng.below(2);
     let basis = rng.below(2);
@@ -247,8 +296,11 @@ pub fn create_curve_shape(rng: &mut Rng, words: &mut Words) {
         widths: widths(rng, &LAID),
         split,
         list_len: 0,
-        floats: points(rng, n, &LAID),
+        floats: laid_points(rng, n),
     };
+    if rng.one_in(8) {
+        double(rng, &mut params.floats);
+    }
     let mut short = false;
     let faults = match rng.below(32) {
         0..=22 => 0,
@@ -266,7 +318,7 @@ pub fn create_curve_shape(rng: &mut Rng, words: &mut Words) {
             5 => {
                 params.split = rng.between(8, 10) as u32;
                 let segments = (1024 >> params.split) + 1 + rng.below(3);
-                params.floats = points(rng, points_of(degree, basis, segments), &LAID);
+                params.floats = laid_points(rng, points_of(degree, basis, segments));
             }
             6 => spoil(rng, &mut params),
             _ => short = true,

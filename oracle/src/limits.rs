@@ -1,4 +1,4 @@
-//! 01's refusals 1 to 11 and 02's 19 to 21, which the supplied Rust has not, or not in this order: a second reading
+//! 01's refusals 1 to 11 and 02's 19 to 22, which the supplied Rust has not, or not in this order: a second reading
 //! of the papers, independent of the library's. Each function tells the first refusal that holds.
 
 use crate::layout::{CURVE_FLOATS, POINTS, RAY_FLOATS, RAY_T_MAX, UMAX, UMIN, WIDTH0, WIDTH1};
@@ -16,7 +16,7 @@ pub struct ShapeParams {
     pub floats: Vec<f32>,
 }
 
-/// Laying: how many pieces, or refusal 1 to 8.
+/// Laying: how many pieces, or refusal 1 to 3, 22, or 4 to 8.
 pub fn create_curve_shape(params: &ShapeParams) -> Result<i64, u32> {
     let degree = params.degree as i64;
     if degree != 2 && degree != 3 {
@@ -34,6 +34,9 @@ pub fn create_curve_shape(params: &ShapeParams) -> Result<i64, u32> {
     };
     if floats % 3 != 0 || !right {
         return Err(3);
+    }
+    if has_equal_neighbours(&params.floats) {
+        return Err(22);
     }
     if params.ty != 0 {
         return Err(4);
@@ -55,6 +58,13 @@ pub fn create_curve_shape(params: &ShapeParams) -> Result<i64, u32> {
     }
 
     Ok(pieces)
+}
+
+/// Whether two points in a row are equal, by f32's own ==.
+pub fn has_equal_neighbours(floats: &[f32]) -> bool {
+    let (points, _) = floats.as_chunks::<3>();
+
+    points.windows(2).any(|pair| pair[0] == pair[1])
 }
 
 /// Refusal 9.

@@ -3,7 +3,7 @@
 
 use crate::beam::{Beam, Cast};
 use crate::beam_inputs::{end_at_hit, ray_at, shape, without_matrices};
-use crate::curve_inputs::{self, points_of, widths, ENTRY, LAID};
+use crate::curve_inputs::{self, mostly_parted, points_of, widths, ENTRY, LAID};
 use crate::inputs::Triple;
 use crate::kinds;
 use crate::layout::{MOST_BEAMS, POINTS, RAY_D, RAY_FLOATS, RAY_O, RAY_T_MAX, WIDTH0, WIDTH1};
@@ -145,6 +145,7 @@ fn for_a_branch(rng: &mut Rng) -> Sheet {
     let beam = without_matrices(rng);
     let most = LAID.coordinate;
     let points = beam.piece[POINTS].iter().map(|x| x.clamp(-most, most));
+    let floats = mostly_parted(rng, points.collect());
     let widths = [beam.piece[WIDTH0], beam.piece[WIDTH1]];
 
     Sheet {
@@ -155,7 +156,7 @@ fn for_a_branch(rng: &mut Rng) -> Sheet {
             widths: widths.map(|w| w.clamp(1.0 / LAID.width, LAID.width)),
             split: rng.pick(&[0, 0, 0, 1, 1, 2]),
             list_len: LIST_LEN,
-            floats: points.collect(),
+            floats,
         },
         reverse: beam.cast.reverse,
         beams: vec![beam.cast.ray],
@@ -174,6 +175,7 @@ fn belt(rng: &mut Rng, (segments, split): Size) -> ShapeParams {
         4 | 5 => shapes(rng, n, scale),
         _ => steps(rng, n, scale),
     };
+    let points = mostly_parted(rng, points);
     let width = scale * pow2(-rng.between(-1, 9)) * (1.0 + rng.unit().abs());
     let other = width * rng.pick(&[1.0, 1.0, 0.25, 0.75, 1.5, 4.0]);
 
@@ -316,7 +318,7 @@ fn spoil(rng: &mut Rng, ray: &mut [f32; RAY_FLOATS]) {
 
 fn misfits(rng: &mut Rng, sheet: &mut Sheet) {
     let belt = &mut sheet.belt;
-    match rng.below(9) {
+    match rng.below(11) {
         0 => belt.degree = rng.pick(&[0, 1, 4, 5, 9, 10, 12, 23, 30, 32, 99]),
         1 => {
             let (len, few) = (belt.floats.len(), 3 * (1 + rng.below(3)) as usize);
@@ -340,7 +342,7 @@ fn misfits(rng: &mut Rng, sheet: &mut Sheet) {
                 1 | 2 => rng.between(258, 300) as u32,
                 _ => rng.between(254, 259) as u32,
             };
-            belt.floats = curve_inputs::points(rng, n, &LAID);
+            belt.floats = curve_inputs::laid_points(rng, n);
             belt.split = 0;
             sheet.beams.truncate(2);
         }
@@ -349,13 +351,14 @@ fn misfits(rng: &mut Rng, sheet: &mut Sheet) {
             belt.split = rng.between(8, 10) as u32;
             let segments = (1024 >> belt.split) + 1 + rng.below(3);
             let n = points_of(belt.degree, belt.basis, segments);
-            belt.floats = curve_inputs::points(rng, n, &LAID);
+            belt.floats = curve_inputs::laid_points(rng, n);
             sheet.beams.truncate(2);
         }
         6 => {
             let at = rng.below(belt.floats.len() as u32) as usize;
             belt.floats[at] = rng.nan();
         }
+        7 | 8 => curve_inputs::double(rng, &mut belt.floats),
         _ => curve_inputs::spoil(rng, belt),
     }
 }
@@ -574,7 +577,7 @@ fn long(rng: &mut Rng) -> Vec<u8> {
     };
     let mut sheet = small(rng);
     let n = (wanted / POINT_BYTES) as u32;
-    sheet.belt.floats = curve_inputs::points(rng, n, &LAID);
+    sheet.belt.floats = curve_inputs::laid_points(rng, n);
     let mut bytes = text(rng, &sheet);
     bytes.truncate(wanted);
     if rng.one_in(4) {
@@ -606,7 +609,7 @@ fn long_and_right(rng: &mut Rng) -> Vec<u8> {
         .min_by_key(|beams| left(*beams).abs_diff(if over { POINT_BYTES } else { 0 }))
         .unwrap_or_default();
     let n = (room - beams * BEAM_BYTES) / POINT_BYTES + over as usize;
-    sheet.belt.floats = curve_inputs::points(rng, n as u32, &LAID);
+    sheet.belt.floats = curve_inputs::laid_points(rng, n as u32);
     sheet.beams = (0..beams).map(|_| rng.floats()).collect();
     other_lines(&sheet, &mut bytes);
 
