@@ -1,15 +1,17 @@
--- What refusal 22 says (02, P4): `differ-at`, `equal-found`, `created-differ`, `equal-refused`. Assumes nothing.
-use mathlib.Core.Path.{_≡_, ap}
-use mathlib.Core.Bool.{true, false, not}
+-- What refusal 22 says (02, P4): `differ-at`, `equal-found`, `created-differ`, `equal-refused`, `refused-equal`. Assumes nothing.
+use mathlib.Core.Path.{_≡_, refl, ap}
+use mathlib.Core.Bool.{Bool, true, false, not, _||_, false≢true}
 use mathlib.Core.List.{List}
-use Prim.Native.Nat.{ℕ, _+_, _/_, _≤_, _<_}
+use Prim.Native.Nat.{ℕ, zero, suc, _+_, _-_, _/_, _≤_, _<_}
 use native.Mathlib.Omega.{arith}
-use borrow.Author.Tests.{not-true, le-ltb}
+use borrow.Author.Tests.{not-true, not-false, le-ltb}
 use lib.Ieee.{Float}
 use lib.ListN.{length}
-use Rattle.limits.specs.Refusal.{firstOf}
-use Rattle.limits.proofs.Below.{all-at, all-fails}
-use Rattle.create.specs.Create.{countWrong, equalsNext, neighboursDiffer, createRefusals, createdOf, listAfter}
+use Rattle.limits.specs.Below.{allBelow}
+use Rattle.limits.specs.Refusal.{firstOf, told}
+use Rattle.limits.proofs.Below.{all-at, all-fails, all-found}
+use Rattle.limits.proofs.Refusals.{holdsWith, first-holds}
+use Rattle.create.specs.Create.{countWrong, curveCount, equalsNext, neighboursDiffer, limitRefusals, createRefusals, createdOf, listAfter}
 use Rattle.create.specs.declared.create.Params.{Params}
 use Rattle.create.specs.declared.create.Created.the-variants.{Curves, Refused}
 use Rattle.create.proofs.Accepted.{accepted}
@@ -40,3 +42,21 @@ module _ (l : List Float) (i : ℕ) (before-last : i + 1 < length l / 3) where
       let d = degree-right (p .degree) low high in
       let b = le-ltb 1 (p .basis) basis in
       (rw (d, b, count, equal-found e), rw (d, b, count, equal-found e))
+
+-- And what is refused by 22 has such a point
+pub refused-equal : (l : List Float) (p : Params) (room : ℕ) → createdOf l p room ≡ Refused 22 → (i : ℕ) × (i + 1 < length l / 3) × (equalsNext l i ≡ true)
+refused-equal l p room a = let z = all-found _ (λ j. not (equalsNext l j)) fails in (z .0, omega (arith, z .1), not-false _ (z .2))
+  where
+    told-number : (number m : ℕ) → told Refused number (Curves m) ≡ Refused 22 → number ≡ 22
+    told-number zero m a = absurd (let z : _≡_ {A = ℕ} 0 1 = cc in omega arith)
+    told-number (suc number) m a = cc
+
+    holds : holdsWith 22 (createRefusals l p room) ≡ true
+    holds = first-holds 21 (createRefusals l p room) (told-number _ (curveCount (length l / 3) p) (unfold createdOf in a))
+
+    only : (b : Bool) → not b || false ≡ true → b ≡ false
+    only true e = absurd (false≢true e)
+    only false e = refl
+
+    fails : allBelow (length l / 3 - 1) (λ j. not (equalsNext l j)) ≡ false
+    fails = unfold neighboursDiffer in only _ (unfold createRefusals limitRefusals in holds)

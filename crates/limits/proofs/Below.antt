@@ -1,6 +1,6 @@
 -- Tests over the numbers below n. Assumes nothing.
 use mathlib.Core.Logic.{⊎-elim}
-use mathlib.Core.Bool.{Bool, true, false, _&&_, and-false}
+use mathlib.Core.Bool.{Bool, true, false, _&&_, and-true, and-false, true≢false}
 use mathlib.Core.Path.{_≡_, refl, sym, ap, _∙_}
 use Prim.Native.Nat.{ℕ, zero, suc, _+_, _<_}
 use native.Mathlib.Nat.{le-refl, not-suc-le-zero, eq-or-lt-of-le, le-of-suc-le-suc}
@@ -19,6 +19,16 @@ unfolding allBelow
 all-fails zero P k l e = absurd (not-suc-le-zero l)
 all-fails (suc n) P k l e =
     ⊎-elim (λ q. ap (λ b. allBelow n P && b) (ap P (sym q) ∙ e) ∙ and-false (allBelow n P)) (λ lt. ap (λ b. b && P n) (all-fails n P k lt e)) (eq-or-lt-of-le (le-of-suc-le-suc l))
+
+-- where not all pass, one fails
+pub all-found : (n : ℕ) (P : ℕ → Bool) → allBelow n P ≡ false → (k : ℕ) × (k < n) × (P k ≡ false)
+unfolding allBelow
+all-found zero P e = absurd (true≢false e)
+all-found (suc n) P e = go (P n) refl (all-found n P) e
+  where
+    go : (b : Bool) → P n ≡ b → (allBelow n P ≡ false → (k : ℕ) × (k < n) × (P k ≡ false)) → allBelow n P && b ≡ false → (k : ℕ) × (k < suc n) × (P k ≡ false)
+    go false q h e = (n, le-refl (suc n), q)
+    go true q h e = let z = h (sym (and-true (allBelow n P)) ∙ e) in (z .0, omega (arith, z .1), z .2)
 
 pub all-each : (n : ℕ) (P : ℕ → Bool) → ((k : ℕ) → k < n → P k ≡ true) → allBelow n P ≡ true
 unfolding allBelow
