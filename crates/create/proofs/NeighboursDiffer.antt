@@ -47,12 +47,12 @@ module _ (l : List Float) (i : ℕ) (before-last : i + 1 < length l / 3) where
 pub refused-equal : (l : List Float) (p : Params) (room : ℕ) → createdOf l p room ≡ Refused 22 → (i : ℕ) × (i + 1 < length l / 3) × (equalsNext l i ≡ true)
 refused-equal l p room a = let z = all-found _ (λ j. not (equalsNext l j)) fails in (z .0, omega (arith, z .1), not-false _ (z .2))
   where
-    told-number : (number m : ℕ) → told Refused number (Curves m) ≡ Refused 22 → number ≡ 22
-    told-number zero m a = absurd (let z : _≡_ {A = ℕ} 0 1 = cc in omega arith)
-    told-number (suc number) m a = cc
+    number-is : (number m : ℕ) → told Refused number (Curves m) ≡ Refused 22 → number ≡ 22
+    number-is zero m a = absurd (let z : _≡_ {A = ℕ} 0 1 = cc in omega arith)
+    number-is (suc number) m a = cc
 
     holds : holdsWith 22 (createRefusals l p room) ≡ true
-    holds = first-holds 21 (createRefusals l p room) (told-number _ (curveCount (length l / 3) p) (unfold createdOf in a))
+    holds = first-holds 21 (createRefusals l p room) (number-is _ (curveCount (length l / 3) p) (unfold createdOf in a))
 
     only : (b : Bool) → not b || false ≡ true → b ≡ false
     only true e = absurd (false≢true e)
