@@ -164,7 +164,7 @@ eq-itself (fin s m e) h = rw (eq-eqb (m * up e * down e) _ refl, same s)
     same true = refl
     same false = refl
 
--- and so do zeros, whatever their signs
+-- zeros equal each other, whatever their signs
 pub eq-zeros : (s t : Bool) (e d : ℤ) → eq (fin s 0 e) (fin t 0 d) ≡ true
 unfolding eq
 eq-zeros s t e d = rw (zero-mul (up e), zero-mul (down d), zero-mul (up d), zero-mul (down e)) (or-true (Bool·beq s t))

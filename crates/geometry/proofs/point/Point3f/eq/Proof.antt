@@ -1,4 +1,4 @@
--- `geometry::eq` meets its contract: each return rewrites by the facts on its way.
+-- `geometry::point::Point3f::eq` meets its contract: each return rewrites by the facts on its way.
 -- Assumes nothing.
 use mathlib.Core.Path.{refl}
 use Rattle.geometry.specs.Point.{pointsEqual}
