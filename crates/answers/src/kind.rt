@@ -1,5 +1,5 @@
 // The kinds of lines: each is an operation of the library.
-#[derive(Drop)]
+#[derive(Clone, Copy)]
 pub enum Kind {
     Sqrt,
     Narrow,

@@ -1,4 +1,6 @@
 // The library's answers to the oracle's lines, by kind, for the program `replay`.
+#![tactic(auto)]
+
 mod create_kind;
 mod curve_kinds;
 mod geometry_kinds;

@@ -21,7 +21,7 @@ use nearest::NearestIntersection;
 const MISSED: u8 = 1;
 
 // What a line has behind its curves.
-#[derive(Drop)]
+#[derive(Clone, Copy)]
 struct Cast {
     object_to_world: Matrix4x4,
     world_to_object: Matrix4x4,

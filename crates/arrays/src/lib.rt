@@ -1,5 +1,7 @@
 // Lists that are copied into and moved down in place, as rows are (specs/Rows). These functions ask that there is room:
 // they write for other crates.
+#![tactic(auto)]
+
 ghost use Rattle.std.specs.Prelude.{◌≡◌, ◌+◌, ◌≤◌, length, take, drop};
 ghost use Rattle.limits.specs.List.{over};
 

@@ -1,6 +1,8 @@
 // Reads a belt sheet on standard input and prints, for each beam and each piece of the belt, where they
 // meet. A refused sheet prints its number and line, and a sentence on standard error. Where a read fails
 // nothing is printed, and where a write fails nothing more: a sentence on standard error says which.
+#![tactic(auto)]
+
 use libc::{STDERR_FILENO, STDIN_FILENO};
 use printer::print_sheet;
 use transfer::Stand;

@@ -5,7 +5,7 @@ ghost use Rattle.bezier.specs.Axis.{blossom_at, between, average_at2, average_at
 
 use geometry::lerp;
 
-#[derive(Drop)]
+#[derive(Clone, Copy)]
 pub struct Axis {
     pub p0: f32,
     pub p1: f32,
@@ -80,7 +80,7 @@ pub fn high(p: Axis) -> Axis
 
 // The curve's coordinate at a parameter, the step between the last two points of the construction, and that from the
 // first control point to the last.
-#[derive(Drop)]
+#[derive(Clone, Copy)]
 pub struct Step {
     pub p: f32,
     pub d: f32,

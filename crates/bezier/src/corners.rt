@@ -7,7 +7,7 @@ use crate::extent::Extent;
 use crate::points::{P0, P1, P2, P3, POINTS, PaddedPoint, padded_in};
 
 // Both corners, coordinate by coordinate. The fourth is that of the points.
-#[derive(Drop)]
+#[derive(Clone, Copy)]
 pub struct Corners {
     pub x: Extent,
     pub y: Extent,

@@ -7,7 +7,7 @@ ghost use Rattle.bezier.specs.Extent.{extent_at, extent_with, extent_union, Numb
 
 use crate::axis::Axis;
 
-#[derive(Drop)]
+#[derive(Clone, Copy)]
 pub struct Extent {
     pub least: f32,
     pub greatest: f32,

@@ -1,5 +1,7 @@
 // Cubic Bezier curves: blossom_bezier, subdivide_bezier and eval_bezier of src/shapes/curve.rs of pbrt-rust, by their
 // names and in their order of operations; and how far their control points reach.
+#![tactic(auto)]
+
 mod axis;
 mod corners;
 mod cubic;

@@ -21,7 +21,7 @@ pub const P2: usize = 8;
 pub const P3: usize = 12;
 
 // One of the points, with its fourth float.
-#[derive(Drop)]
+#[derive(Clone, Copy)]
 pub struct PaddedPoint {
     pub x: f32,
     pub y: f32,

@@ -1,5 +1,7 @@
 // All that is printed of a sheet: its report, by lines that are numbered from 0, in blocks of whole lines that are put
 // into a buffer that is lent. Whoever writes the blocks, one behind the other, has written the report.
+#![tactic(auto)]
+
 ghost use Rattle.std.specs.Prelude.{◌≡◌, ◌≤◌, ◌<◌, eqb, length};
 ghost use Rattle.text.specs.Put.{Put};
 ghost use Rattle.create.specs.Create.{most_curves};
@@ -19,7 +21,7 @@ use sheet::{RAYS_FLOATS, Reply};
 pub const ROOM: usize = MOST_CURVES * FLOATS;
 
 // What is left of a sheet's report: what was read of the sheet, but for its curves, and the line that is next.
-#[derive(Drop)]
+#[derive(Clone, Copy)]
 pub struct Rest {
     pub reply: Reply,
     pub rays: [f32; RAYS_FLOATS],
@@ -27,14 +29,14 @@ pub struct Rest {
 }
 
 // The place behind a block's bytes, and what is left behind it.
-#[derive(Drop)]
+#[derive(Clone, Copy)]
 pub struct Block {
     pub end: usize,
     pub rest: Rest,
 }
 
 // The place behind the bytes of lines that were put, and the line behind them.
-#[derive(Drop)]
+#[derive(Clone, Copy)]
 struct Behind {
     end: usize,
     next: usize,

@@ -24,7 +24,7 @@ use Rattle.create.specs.Basis.{stride_of, segment_at}
 use Rattle.create.specs.Create.{segment_count, part_count, curve_count, create_refusals, ratio, part_of, end_width, part_floats, segment_floats, created_floats, created_of, list_after}
 use Rattle.create.proofs.Accepted.{Accepted, accepted}
 use Rattle.create.proofs.Counts.{within-points}
-use Rattle.create.proofs.Created.{answered_zero}
+use Rattle.create.proofs.CreatedLemmas.{answered_zero}
 use Rattle.curve.proofs.Records.{length-floats, is_curve_within}
 use Rattle.create.proofs.Lengths.{length-segment}
 use Rattle.create.proofs.Limits.{segment-within, width_lerp, umin_umax}

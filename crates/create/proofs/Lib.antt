@@ -2,7 +2,7 @@ pub mod CreatedPasses
 pub mod NeighboursDiffer
 mod Accepted
 mod Counts
-mod Created
+mod CreatedLemmas
 mod Divisible
 mod Lengths
 mod Limits

@@ -16,7 +16,7 @@ use Rattle.create.specs.declared.create.Params.{Params}
 use Rattle.create.specs.declared.create.Created.TheVariants.{Curves, Refused}
 use Rattle.create.proofs.Accepted.{accepted}
 use Rattle.create.proofs.Counts.{degree_right}
-use Rattle.create.proofs.Created.{answered_zero}
+use Rattle.create.proofs.CreatedLemmas.{answered_zero}
 
 module _ (l : List Float) (i : ℕ) (before_last : i + 1 < length l / 3) where
   -- where it passes, no point but the last equals the next one

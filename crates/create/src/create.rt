@@ -12,7 +12,7 @@ use curve::{Curve, FLOATS, curve_floats};
 use geometry::lerp;
 
 // What a curve is made of, beside its points: basis 0 is Bezier, 1 is B-spline, and type 0 is flat.
-#[derive(Drop)]
+#[derive(Clone, Copy)]
 pub struct Params {
     pub degree: u32,
     pub basis: u32,
@@ -23,7 +23,7 @@ pub struct Params {
 }
 
 // How many curves were written, or the refusal's number.
-#[derive(Drop)]
+#[derive(Clone, Copy)]
 pub enum Created {
     Curves(u32),
     Refused(u8),

@@ -10,7 +10,7 @@ use geometry::{Point3f, lerp};
 use limits::{is_width_within, is_within};
 
 // The segment's control points and widths, and the part of it that is the curve.
-#[derive(Drop)]
+#[derive(Clone, Copy)]
 pub struct Curve {
     pub cp: Cubic,
     pub width0: f32,

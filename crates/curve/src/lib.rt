@@ -1,5 +1,7 @@
 // The record of a flat curve: Curve and CurveCommon of src/shapes/curve.rs of pbrt-rust. A curve is lent as a slice of
 // floats, whose layout stands in one module.
+#![tactic(auto)]
+
 mod curve;
 mod layout;
 

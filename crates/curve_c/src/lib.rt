@@ -1,6 +1,8 @@
 // The curves for callers in C and Rust (include/curve.h): each function answers 0, a refusal's number, or of
 // curve_intersect and curve_nearest 1 for a miss, and writes its values through the pointers it is given. A refusal
 // leaves what they point to, but for the line that curve_sheet writes with every reply.
+#![tactic(auto)]
+
 mod floats;
 mod lists;
 mod rays;

@@ -23,14 +23,14 @@ use matrix::{Matrix4x4, flatten};
 use nearest::NearestIntersection;
 
 // What is said to an open, an add or a remove.
-#[derive(Drop)]
+#[derive(Clone, Copy)]
 pub enum Changed {
     Done,
     Refused(u8),
 }
 
 // A hit with its record and its curve's number, or a miss. No curve that is refused is in a set.
-#[derive(Drop)]
+#[derive(Clone, Copy)]
 pub enum SetIntersection {
     Hit(SurfaceInteraction, u32),
     Miss,

@@ -1,5 +1,7 @@
 // Float tools: what the operators of `f32` and `f64` lack. Each contract is one equation with a
 // definition of `specs/`, and no public function asks anything of its caller.
+#![tactic(auto)]
+
 ghost use Rattle.std.specs.Prelude.{◌≡◌, suc, ◌+◌, ◌*◌, ◌/◌, ◌%◌, ◌^◌, ◌<◌, ◌≤◌, from_bits, to_bits};
 ghost use Rattle.std.specs.Float.{binary32};
 ghost use Rattle.std.specs.Float.Ieee.{prec, hid, ones};

@@ -5,14 +5,14 @@ ghost use Rattle.float.specs.Narrow.{spare};
 ghost use Rattle.float.specs.Whole.{at_half, nearest_to, size_held, product_of};
 
 // Where an exact half goes: to the greater whole number, or to the even one.
-#[derive(Drop)]
+#[derive(Clone, Copy)]
 pub enum Ties {
     Up,
     Even,
 }
 
 // The size of a whole number, where a u32 holds it.
-#[derive(Drop)]
+#[derive(Clone, Copy)]
 pub enum Rounded {
     Whole(u32),
     Beyond,

@@ -14,7 +14,7 @@ use transform::{
 
 // What a leaf needs of the ray: its direction in the object's frame, how long that is, how far the ray reaches in its
 // own frame, and the transform from the object to it. The ray's time has no part in it.
-#[derive(Drop)]
+#[derive(Clone, Copy)]
 pub struct View {
     pub d: Vector3f,
     pub ray_length: f32,
@@ -24,7 +24,7 @@ pub struct View {
 
 // A ray in the object's frame, how long its direction is, and how far it reaches in its own frame: what is the same for
 // every curve.
-#[derive(Drop)]
+#[derive(Clone, Copy)]
 pub struct Aim {
     pub ray: Ray,
     pub ray_length: f32,
@@ -32,7 +32,7 @@ pub struct Aim {
 }
 
 // There is none where the weight of the ray's origin is zero (refusal 12).
-#[derive(Drop)]
+#[derive(Clone, Copy)]
 pub enum Aimed {
     Ray(Aim),
     ZeroWeight,
@@ -40,7 +40,7 @@ pub enum Aimed {
 
 // The ray in the object's frame with its view, and the curve's control points in the ray's frame; or why there are none:
 // a weight of zero (refusal 12) or a division by a length of zero (13).
-#[derive(Drop)]
+#[derive(Clone, Copy)]
 pub enum Framed {
     Curve(Ray, View, Cubic),
     ZeroWeight,
@@ -73,7 +73,7 @@ fn ray_frame(ray: Ray, cp: Cubic) -> LookAt
     }
 }
 
-#[derive(Drop)]
+#[derive(Clone, Copy)]
 enum Pair {
     Points(Point3f, Point3f),
     ZeroWeight,
@@ -91,7 +91,7 @@ fn pair_up(a: TransformedPoint, b: TransformedPoint) -> Pair
     }
 }
 
-#[derive(Drop)]
+#[derive(Clone, Copy)]
 enum Projected {
     Cubic(Cubic),
     ZeroWeight,

@@ -4,7 +4,7 @@ ghost use Rattle.geometry.specs.Bounds.{bounds_at, with_point};
 
 use crate::point::Point3f;
 
-#[derive(Drop)]
+#[derive(Clone, Copy)]
 pub struct Bounds3f {
     pub p_min: Point3f,
     pub p_max: Point3f,

@@ -2,6 +2,8 @@
 // core/geometry and core/pbrt.rs of pbrt-rust, by their names and in their order of operations.
 // The Rust's generic types are structs of floats, its operators are methods, and where it panics on
 // a division by zero the answer is an enum.
+#![tactic(auto)]
+
 mod bounds;
 mod normal;
 mod pbrt;

@@ -4,7 +4,7 @@ ghost use Rattle.geometry.specs.Normal.{normal_of, normal_scaled};
 
 use crate::vector::Vector3f;
 
-#[derive(Drop)]
+#[derive(Clone, Copy)]
 pub struct Normal3f {
     pub x: f32,
     pub y: f32,

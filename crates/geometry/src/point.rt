@@ -5,7 +5,7 @@ ghost use Rattle.geometry.specs.Point.{point_from, difference2, plus, moved, dif
 use crate::pbrt::lerp;
 use crate::vector::{Vector2f, Vector3f};
 
-#[derive(Drop)]
+#[derive(Clone, Copy)]
 pub struct Point2f {
     pub x: f32,
     pub y: f32,
@@ -22,7 +22,7 @@ impl Point2f {
     }
 }
 
-#[derive(Drop)]
+#[derive(Clone, Copy)]
 pub struct Point3f {
     pub x: f32,
     pub y: f32,
@@ -45,7 +45,7 @@ pub fn point_from(s: &[f32], at: usize) -> Point3f
 }
 
 // A point divided by a number, or that the number is zero.
-#[derive(Drop)]
+#[derive(Clone, Copy)]
 pub enum DividedPoint {
     Point(Point3f),
     ByZero,

@@ -5,7 +5,7 @@ ghost use Rattle.geometry.specs.Ray.{ray_floats, ray_from, flat_ray, point_at};
 use crate::point::{Point3f, point_from};
 use crate::vector::{Vector3f, vector_from};
 
-#[derive(Drop)]
+#[derive(Clone, Copy)]
 pub struct Ray {
     pub o: Point3f,
     pub d: Vector3f,

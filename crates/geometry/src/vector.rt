@@ -2,7 +2,7 @@
 ghost use Rattle.std.specs.Prelude.{◌≡◌, ◌+◌, ◌≤◌, length};
 ghost use Rattle.geometry.specs.Vector.{vector_from, negated2, dot2, length_squared2, negated, scaled, divided, dot_of, absolute, length_squared, length_of, normalized, minor_of, vector_of, cross_of, crossed_of, axes_of, coordinate_system};
 
-#[derive(Drop)]
+#[derive(Clone, Copy)]
 pub struct Vector2f {
     pub x: f32,
     pub y: f32,
@@ -31,7 +31,7 @@ impl Vector2f {
     }
 }
 
-#[derive(Drop)]
+#[derive(Clone, Copy)]
 pub struct Vector3f {
     pub x: f32,
     pub y: f32,
@@ -51,7 +51,7 @@ pub fn vector_from(s: &[f32], at: usize) -> Vector3f
 }
 
 // A vector divided by a number, or that the number is zero: there the Rust panics.
-#[derive(Drop)]
+#[derive(Clone, Copy)]
 pub enum Divided {
     Vector(Vector3f),
     ByZero,
@@ -144,7 +144,7 @@ impl Vector3f {
 
 // A cross product with the square of its length, summed while its parts are in registers: what is read back right after
 // it was written costs more than the sum.
-#[derive(Drop)]
+#[derive(Clone, Copy)]
 pub struct Crossed {
     pub v: Vector3f,
     pub length_squared: f32,
@@ -199,7 +199,7 @@ fn minor(a: f32, b: f32, c: f32, d: f32) -> f32
 
 // The second and the third axis beside a first one, or that the second has length zero: there the
 // Rust panics.
-#[derive(Drop)]
+#[derive(Clone, Copy)]
 pub enum CoordinateSystem {
     Axes(Vector3f, Vector3f),
     ZeroLength,

@@ -6,21 +6,21 @@ ghost use Rattle.grammar.specs.Head.{advanced, field_of, start_of, head_of};
 use crate::reader::{Taken, read_line};
 
 // Where the next line starts, how many lines before it are right, and whether none was wrong.
-#[derive(Drop)]
+#[derive(Clone, Copy)]
 pub struct Cursor {
     pub at: usize,
     pub lines: usize,
     pub ok: bool,
 }
 
-#[derive(Drop)]
+#[derive(Clone, Copy)]
 pub struct Field {
     pub cursor: Cursor,
     pub value: u32,
 }
 
 // What the lines say, widths as their bits.
-#[derive(Drop)]
+#[derive(Clone, Copy)]
 pub struct Head {
     pub cursor: Cursor,
     pub degree: u32,

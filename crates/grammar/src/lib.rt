@@ -1,4 +1,6 @@
 // The lines of a belt sheet (01: Sheet): its head of seven lines, and rows of floats.
+#![tactic(auto)]
+
 mod head;
 mod line;
 mod reader;

@@ -5,7 +5,7 @@ ghost use Rattle.grammar.specs.Grammar.{far, longest_key, decimal_at, decimal_li
 use text::{digit_at, is_byte, is_word, stands_at, word_at};
 
 // A line's value and the place behind its LF, or that it is wrong.
-#[derive(Drop)]
+#[derive(Clone, Copy)]
 pub enum Line {
     Value(u32, usize),
     Wrong,

@@ -7,14 +7,14 @@ use crate::line::{Line, head_line};
 use crate::row::{POINT, row_line};
 
 // The reader: the sheet that is lent, and the place where its next line starts.
-#[derive(Drop)]
+#[derive(Clone, Copy)]
 pub struct Reader<'a> {
     pub src: &'a [u8],
     pub at: usize,
 }
 
 // A line that was taken: its value, and where the reader then stands. Before a wrong line it stays.
-#[derive(Drop)]
+#[derive(Clone, Copy)]
 pub struct Taken {
     pub value: u32,
     pub at: usize,

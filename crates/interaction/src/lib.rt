@@ -1,4 +1,6 @@
 // What a ray meets: SurfaceInteraction of src/core/interaction.rs of pbrt-rust, as far as a flat curve fills it.
+#![tactic(auto)]
+
 ghost use Rattle.std.specs.Prelude.{◌≡◌, ◌≤◌, length};
 ghost use Rattle.interaction.specs.Floats.{record_size, record_floats, record_from};
 
@@ -6,7 +8,7 @@ use geometry::{Normal3f, Point3f, Vector3f, point_from, vector_from};
 
 // Where a ray meets a curve, in the object's frame (01: a hit's record). The Rust hands the distance
 // out beside its SurfaceInteraction and has u and v in a point.
-#[derive(Drop)]
+#[derive(Clone, Copy)]
 pub struct SurfaceInteraction {
     pub t_hit: f32,
     pub u: f32,

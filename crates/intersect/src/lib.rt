@@ -1,5 +1,7 @@
 // The ray and the flat curve: `intersect` of Curve in src/shapes/curve.rs of pbrt-rust, by its names
 // and in its order of operations. Refusals are numbers, and nothing is asked of a caller.
+#![tactic(auto)]
+
 ghost use Rattle.std.specs.Prelude.{◌≡◌, ◌≤◌, length};
 ghost use Rattle.curve.specs.Layout.{floats, curve_from};
 ghost use Rattle.frame.specs.Frame.{framed_along, with_aim};
@@ -17,7 +19,7 @@ use walk::{HIT, MISS, Rule, walk_aimed};
 
 // A hit with its record, or a miss, each with the number of subcurves looked at; or a refusal by its
 // number.
-#[derive(Drop)]
+#[derive(Clone, Copy)]
 pub enum Intersection {
     Hit(SurfaceInteraction, u32),
     Miss(u32),

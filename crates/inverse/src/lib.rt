@@ -1,6 +1,8 @@
 // The inverse of a 4x4 matrix, sixteen floats row by row: Gauss-Jordan elimination with full pivoting, operation by
 // operation as Matrix4x4::inverse of pbrt-rust (src/core/transform.rs). A singular matrix is inverted onward, to infinities
 // and NaNs.
+#![tactic(auto)]
+
 ghost use Rattle.std.specs.Prelude.{◌≡◌, ◌≢◌, ◌<◌};
 ghost use Rattle.pivot.specs.Pivot.{Placed, none_taken, pivot_of};
 ghost use Rattle.inverse.specs.Inverse.{AtMost, column_taken, swap_at, exchange_rows, swap_rows, but_at, scale_row, cleared, clear_row, eliminated, reduced, turned, exchange_columns, swap_columns, inverse_flat};

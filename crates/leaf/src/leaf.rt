@@ -12,14 +12,14 @@ use geometry::{Divided, Point2f, Vector2f, Vector3f, clamp, lerp};
 use transform::transform_vector;
 
 // The distance along the ray, and the parameters along and across the curve.
-#[derive(Drop)]
+#[derive(Clone, Copy)]
 pub struct Crossing {
     pub t: f32,
     pub u: f32,
     pub v: f32,
 }
 
-#[derive(Drop)]
+#[derive(Clone, Copy)]
 enum Crossed {
     At(Crossing),
     Nowhere,
@@ -120,7 +120,7 @@ fn cross_leaf(curve: &[f32], fixed: &[f32; FIXED], p: &[f32; POINTS], u0: f32, u
 }
 
 // The partial derivatives, the normal before it is turned, and the direction back along the ray.
-#[derive(Drop)]
+#[derive(Clone, Copy)]
 pub struct Frame {
     pub dpdu: Vector3f,
     pub dpdv: Vector3f,
@@ -129,7 +129,7 @@ pub struct Frame {
 }
 
 // A frame, or the number of the refusal (01: no frame).
-#[derive(Drop)]
+#[derive(Clone, Copy)]
 enum Framing {
     Frame(Frame),
     NoFrame(u8),
@@ -195,7 +195,7 @@ fn frame_at(curve: &[f32], fixed: &[f32; FIXED], u: f32) -> Framing
 }
 
 // What a leaf answers. The distance stands also where there is no frame.
-#[derive(Drop)]
+#[derive(Clone, Copy)]
 pub enum Leaf {
     Passes(Crossing, Frame),
     Fails,

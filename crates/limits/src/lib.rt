@@ -1,5 +1,7 @@
 // What several operations ask of what they are given: floats, matrices and rays within limits. The refusals as a table
 // (specs/Refusal) and a list that is written over (specs/List) are definitions alone.
+#![tactic(auto)]
+
 ghost use Rattle.std.specs.Prelude.{◌≡◌};
 ghost use Rattle.limits.specs.Refusal.{first_of};
 ghost use Rattle.limits.specs.Within.{within, width_within, row_within, matrix_within, ray_within, ray_refusals};

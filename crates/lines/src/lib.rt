@@ -1,5 +1,7 @@
 // The oracle's lines, for the programs that run them: words in hexadecimal, the words of an answer, and the list of
 // create_curve_shape.
+#![tactic(auto)]
+
 mod list;
 mod out;
 mod words;

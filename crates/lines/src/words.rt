@@ -10,14 +10,14 @@ pub type Words = [u32; LINE_WORDS];
 pub type Floats = [f32; LINE_WORDS];
 
 // The word that is being read, and how many words stand before it in its line.
-#[derive(Drop)]
+#[derive(Clone, Copy)]
 pub struct Scan {
     pub word: u32,
     pub count: usize,
 }
 
 // What a byte leads to: on in its line, or its end with so many words.
-#[derive(Drop)]
+#[derive(Clone, Copy)]
 pub enum Step {
     More(Scan),
     End(usize),

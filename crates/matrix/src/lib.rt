@@ -1,8 +1,10 @@
 // `Matrix4x4` of pbrt-rust, src/core/transform.rs: a struct of rows for callers. Its inverse is worked out on sixteen floats, in the crate `inverse`.
+#![tactic(auto)]
+
 ghost use Rattle.std.specs.Prelude.{◌≡◌, ◌+◌, ◌≤◌, length};
 ghost use Rattle.matrix.specs.Matrix.{matrix_floats, identity, flat, row_from, matrix_from, inverse_of};
 
-#[derive(Drop)]
+#[derive(Clone, Copy)]
 pub struct Row {
     pub c0: f32,
     pub c1: f32,
@@ -10,7 +12,7 @@ pub struct Row {
     pub c3: f32,
 }
 
-#[derive(Drop)]
+#[derive(Clone, Copy)]
 pub struct Matrix4x4 {
     pub r0: Row,
     pub r1: Row,

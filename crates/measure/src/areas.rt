@@ -6,7 +6,7 @@ ghost use Rattle.measure.specs.Area.{mean_width, area_in};
 use bezier::chords;
 use curve::{UMAX, UMIN, control_points, is_curve, width_at};
 
-#[derive(Drop)]
+#[derive(Clone, Copy)]
 pub enum Measured {
     Area(f32),
     Refused(u8),

@@ -11,7 +11,7 @@ use limits::is_matrix_within;
 use matrix::Matrix4x4;
 use transform::{TransformedBounds, transform_bounds};
 
-#[derive(Drop)]
+#[derive(Clone, Copy)]
 pub enum Bound {
     Bounds(Bounds3f),
     Refused(u8),

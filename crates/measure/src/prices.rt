@@ -12,7 +12,7 @@ const MOST_RATE: u32 = 1_000_000;
 
 const MOST_CENTS: u32 = 1_000_000_000;
 
-#[derive(Drop)]
+#[derive(Clone, Copy)]
 pub enum Priced {
     Cents(u32),
     Refused(u8),

@@ -1,5 +1,7 @@
 // The nearest crossing of a ray with a list of curves, where `intersect` tells the last of one curve. There is nothing of
 // it in pbrt-rust but the walk. Refusals are numbers, and nothing is asked of a caller.
+#![tactic(auto)]
+
 ghost use Rattle.std.specs.Prelude.{◌≡◌};
 ghost use Rattle.nearest.specs.Nearest.{nearest_within, nearest_aimed, nearest_of};
 
@@ -15,7 +17,7 @@ use limits::ray_refusal;
 use matrix::Matrix4x4;
 
 // A hit with its record and the number of its curve in the list, from 0; a miss; or a refusal by its number.
-#[derive(Drop)]
+#[derive(Clone, Copy)]
 pub enum NearestIntersection {
     Hit(SurfaceInteraction, usize),
     Miss,

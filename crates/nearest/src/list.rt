@@ -14,7 +14,7 @@ use leaf::{FOUND, crossing_in, distance_in, frame_in, record_at};
 use walk::{HIT, MISS, Rule, walk_aimed};
 
 // What the curves so far have come to: the number of the one with the nearest crossing, whose floats are lent beside it.
-#[derive(Drop)]
+#[derive(Clone, Copy)]
 enum Kept {
     Hit(usize),
     Miss,

@@ -1,6 +1,8 @@
 // Which parts of a curve a ray can meet: how often a curve is cut in two, its halves, and the tests that throw one out.
 // Parts of `intersect` and recursive_intersect of src/shapes/curve.rs of pbrt-rust, by their names and in their order of
 // operations.
+#![tactic(auto)]
+
 mod depth;
 mod subcurve;
 mod thrown;

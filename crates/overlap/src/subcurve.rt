@@ -8,7 +8,7 @@ use curve::{UMAX, UMIN};
 
 // The control points in the ray's frame, and the parameters at the ends (01: a piece of the walk, and
 // after the last cut a sliver).
-#[derive(Drop)]
+#[derive(Clone, Copy)]
 pub struct Subcurve {
     pub cp: Cubic,
     pub u0: f32,

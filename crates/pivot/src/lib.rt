@@ -1,11 +1,13 @@
 // The pivot of a turn of Matrix4x4::inverse of pbrt-rust (src/core/transform.rs), in a matrix of sixteen floats row by row: its
 // largest entry in a row and a column that are not taken, by the marks of ipiv. A NaN is never taken for it, and the later
 // of two equal entries is.
+#![tactic(auto)]
+
 ghost use Rattle.std.specs.Prelude.{◌≡◌, ◌<◌};
 ghost use Rattle.pivot.specs.Pivot.{Placed, none_taken, look_entry, look_along, look_row, pivot_of};
 
 // The pivot found so far: big, irow and icol.
-#[derive(Drop)]
+#[derive(Clone, Copy)]
 pub struct Pivot {
     pub big: f32,
     pub row: usize,

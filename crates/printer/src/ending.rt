@@ -5,7 +5,7 @@ const CR: u8 = 13;
 
 const LF: u8 = 10;
 
-#[derive(Drop)]
+#[derive(Clone, Copy)]
 pub enum Ending {
     Lf,
     CrLf,

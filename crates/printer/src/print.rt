@@ -11,7 +11,7 @@ use sheet::Reply;
 use transfer::{Stand, is_open};
 
 // How many bytes of a report were written, and how the last write stands.
-#[derive(Drop)]
+#[derive(Clone, Copy)]
 pub struct Printed {
     pub bytes: usize,
     pub stand: Stand,

@@ -1,5 +1,7 @@
 // Runs the oracle's stored answers, KIND.txt, against the library, and prints a line for each
 // kind with the number of answers that were compared and that differ. A difference prints its line.
+#![tactic(auto)]
+
 use libc::STDOUT_FILENO;
 
 mod compare;
@@ -10,7 +12,7 @@ use lines::{Floats, LINE_WORDS, Words};
 use scan::Tally;
 
 // Reads once, and answers whether to go on.
-#[derive(Drop)]
+#[derive(Clone, Copy)]
 struct Turn {
     tally: Tally,
     goes_on: bool,

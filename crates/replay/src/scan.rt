@@ -4,7 +4,7 @@ use answers::Kind;
 use lines::{Floats, Scan, Step, Words};
 
 // Where the scan is, and how many lines were compared and differ.
-#[derive(Drop)]
+#[derive(Clone, Copy)]
 pub struct Tally {
     pub scan: Scan,
     pub lines: u64,

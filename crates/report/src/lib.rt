@@ -1,4 +1,6 @@
 // The lines that are printed of a sheet: where a ray meets a curve, or why the sheet is refused.
+#![tactic(auto)]
+
 mod line;
 
 pub use line::{LONGEST, put_answer, put_pieces, put_refused_sheet};

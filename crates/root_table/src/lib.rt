@@ -1,6 +1,8 @@
 // The table that the square root's guess is made of, as tools/root_table writes it: 128 quadratics, each for one part of
 // the numbers. Both words of an entry are arms of a `match`, which compiles to a load: a `const` array would be copied
 // at each call. No proof rests on the entries, so there is no contract.
+#![tactic(auto)]
+
 
 // The line under the root over a part: in the upper half its start, in 1 / 2^8, and in the lower
 // half its slope, in 1 / 2^32.

@@ -1,4 +1,6 @@
 // Prints the report of each stored sheet, under its name.
+#![tactic(auto)]
+
 use libc::STDOUT_FILENO;
 
 fn run(path: &[u8]) {

@@ -1,5 +1,7 @@
 // The belt sheet (01: Sheet): its reader. A sheet is a head of seven lines, then one or more points, then
 // up to 64 rays; its curves go into a list that is lent.
+#![tactic(auto)]
+
 ghost use Rattle.std.specs.Prelude.{◌≡◌, ◌*◌, ◌≤◌, length};
 ghost use Rattle.geometry.specs.Ray.{ray_floats};
 ghost use Rattle.create.specs.Create.{created_of, list_after};
@@ -28,14 +30,14 @@ const RAY_SIZE: usize = 5 + RAY_FLOATS * FLOAT_SIZE;
 
 // What a sheet answers: the number of curves, the reverse flag and the number of rays; or a refusal's
 // number with the wrong line, which is 0 with every number but 17.
-#[derive(Drop)]
+#[derive(Clone, Copy)]
 pub enum Reply {
     Accepted(u32, bool, usize),
     Refused(u8, usize),
 }
 
 // The reply, and eight floats for each ray, the rest 0.
-#[derive(Drop)]
+#[derive(Clone, Copy)]
 pub struct Sheet {
     pub reply: Reply,
     pub rays: [f32; RAYS_FLOATS],

@@ -1,11 +1,13 @@
 // How many rays were answered, and how. A tally grows by one ray at a time up to a limit that 32 bits hold.
+#![tactic(auto)]
+
 ghost use Rattle.std.specs.Prelude.{true, ◌≡◌};
 ghost use Rattle.tally.specs.Tally.{kind_of, sum_of, can_grow, grown, after, tally_of, counters_after};
 
 // A tally with as many rays counts no more.
 pub const MOST_RAYS: u32 = 4_000_000_000;
 
-#[derive(Drop)]
+#[derive(Clone, Copy)]
 pub enum Kind {
     Hit,
     Miss,
@@ -13,7 +15,7 @@ pub enum Kind {
 }
 
 // 02: the tally of beams, hits, misses and refusals.
-#[derive(Drop)]
+#[derive(Clone, Copy)]
 pub struct Tally {
     pub rays: u32,
     pub hits: u32,
@@ -22,7 +24,7 @@ pub struct Tally {
 }
 
 // Whether an answer is counted, and the tally afterwards.
-#[derive(Drop)]
+#[derive(Clone, Copy)]
 pub struct Counted {
     pub yes: bool,
     pub tally: Tally,

@@ -1,4 +1,6 @@
 // Text as bytes: digits and words, read by place and put into a slice that is lent.
+#![tactic(auto)]
+
 mod read;
 mod write;
 

@@ -1,6 +1,8 @@
 // Bytes handed to the system's write, or asked of its read, until all have moved. A call may move fewer than it is
 // handed, and a signal may interrupt it before it moves any: the next call takes up where it broke off. A call that
 // fails ends the transfer, and whoever asked for it is told.
+#![tactic(auto)]
+
 ghost use Rattle.std.specs.Prelude.{◌≡◌, ◌+◌, ◌≤◌, ◌<◌, ◌^◌, length};
 ghost use Rattle.transfer.specs.Transfer.{is_open, most_interruptions, counted, after_failure, after_call, Answered, is_due, Within, Ended};
 ghost use Rattle.transfer.specs.Transfer.{start as Transfer·start};
@@ -12,7 +14,7 @@ const MOST_INTERRUPTIONS: usize = 100;
 
 // How a transfer stands: it can go on; a call moved nothing, which for a read is the end of the input; calls were
 // interrupted too often in a row; a call failed, and errno says why.
-#[derive(Drop)]
+#[derive(Clone, Copy)]
 pub enum Stand {
     Open,
     Nothing,
@@ -21,7 +23,7 @@ pub enum Stand {
 }
 
 // How many bytes were moved, and how many calls in a row were interrupted last.
-#[derive(Drop)]
+#[derive(Clone, Copy)]
 pub struct Transfer {
     pub done: usize,
     pub interrupted: usize,

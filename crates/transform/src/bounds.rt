@@ -7,7 +7,7 @@ use geometry::{Bounds3f, Point3f};
 use matrix::Matrix4x4;
 
 // A box, or that a corner's weight is zero.
-#[derive(Drop)]
+#[derive(Clone, Copy)]
 pub enum TransformedBounds {
     Bounds(Bounds3f),
     ZeroWeight,

@@ -5,7 +5,7 @@ ghost use Rattle.transform.specs.LookAt.{identity_transform, camera_to_world, fr
 use geometry::{Divided, Point3f, Vector3f};
 use matrix::{Matrix4x4, Row};
 
-#[derive(Drop)]
+#[derive(Clone, Copy)]
 pub struct Transform {
     pub m: Matrix4x4,
     pub m_inv: Matrix4x4,
@@ -13,7 +13,7 @@ pub struct Transform {
 
 // A transform, or that the viewing direction or the up vector has length zero: there the Rust
 // panics.
-#[derive(Drop)]
+#[derive(Clone, Copy)]
 pub enum LookAt {
     Transform(Transform),
     ZeroLength,

@@ -2,6 +2,8 @@
 // pbrt-rust, by its names and in its order of operations. The Rust's methods read the matrix `m` of
 // a `Transform` alone, so here they are functions of the matrix. Where the Rust panics the answer
 // is an enum.
+#![tactic(auto)]
+
 ghost use Rattle.std.specs.Prelude.{◌≡◌};
 ghost use Rattle.transform.specs.Handedness.{swaps_handedness};
 

@@ -7,7 +7,7 @@ use geometry::{DividedPoint, Point3f, Vector3f};
 use matrix::Matrix4x4;
 
 // A point, or that its weight is zero: there the Rust panics.
-#[derive(Drop)]
+#[derive(Clone, Copy)]
 pub enum TransformedPoint {
     Point(Point3f),
     ZeroWeight,
@@ -42,7 +42,7 @@ pub fn transform_point(m: Matrix4x4, p: Point3f) -> TransformedPoint
 }
 
 // A point with the bound on its error, or that its weight is zero.
-#[derive(Drop)]
+#[derive(Clone, Copy)]
 pub enum PointWithError {
     Point(Point3f, Vector3f),
     ZeroWeight,

@@ -7,7 +7,7 @@ use crate::vector::transform_vector_error;
 use geometry::{Point3f, Ray, Vector3f};
 use matrix::Matrix4x4;
 
-#[derive(Drop)]
+#[derive(Clone, Copy)]
 pub struct RayWithError {
     pub ray: Ray,
     pub o_error: Vector3f,
@@ -15,7 +15,7 @@ pub struct RayWithError {
 }
 
 // A ray, or that its origin's weight is zero: there the Rust panics.
-#[derive(Drop)]
+#[derive(Clone, Copy)]
 pub enum TransformedRay {
     Ray(RayWithError),
     ZeroWeight,

@@ -16,7 +16,7 @@ pub fn transform_vector(m: Matrix4x4, v: Vector3f) -> Vector3f
     }
 }
 
-#[derive(Drop)]
+#[derive(Clone, Copy)]
 pub struct VectorWithError {
     pub v: Vector3f,
     pub error: Vector3f,

@@ -10,7 +10,7 @@ use leaf::{FOUND, Leaf, distance_in, found_floats, put_distance};
 // `Last`: the last leaf that passes, and the walk ends at one with no frame or at distance zero (01: the stop).
 // `Nearest`: the nearest leaf that passes, the first of those as near, and the walk ends at one with no frame. A leaf at
 // a NaN distance does not pass.
-#[derive(Drop)]
+#[derive(Clone, Copy)]
 pub enum Rule {
     Last,
     Nearest,

@@ -6,13 +6,13 @@ use Rattle.float.proofs.abs.Statement.{statement}
 use Rattle.float.proofs.abs.Tie as tie
 
 held : (c : tie.Start) → T (fits binary32 c.args.x)
-held c = subst T (sym c.well-formed.0.1) tt
+held c = subst T (sym c.well_formed.0.1) tt
 
-returns : tie.Need-returns
-returns c = greater c.before.args.x (held c.before) c.if1.true
+returns : tie.Need-returns-then-opposite-x
+returns c = greater c.before.args.x (held c.before) c.if-opposite-x.true
 
-returns-2 : tie.Need-returns-2
-returns-2 c = not_greater c.before.args.x (held c.before) c.if1.false
+returns-2 : tie.Need-returns-else-opposite-x
+returns-2 c = not_greater c.before.args.x (held c.before) c.if-opposite-x.false
 
-pub abs-spec : {M : Type 1} → statement M
-abs-spec = tie.close (tie.spec returns returns-2)
+pub abs_spec : {M : Type 1} → statement M
+abs_spec = tie.close (tie.spec returns returns-2)

@@ -11,6 +11,7 @@ use Rattle.float.proofs.Narrowing.{Narrowed, to_zero, to_subnormal, to_normal, t
 use Rattle.float.proofs.Pattern.{last, may_read}
 use Rattle.float.proofs.narrow.Statement.{statement}
 use Rattle.float.proofs.narrow.Tie as tie
+use Rattle.float.proofs.narrow.Lts.{in-897-to-1150, in_default, in_default-via-then-exponent-lt897, in_default-via-else-exponent-lt897+else-exponent-lt1151}
 
 -- ---- the exponent's field and the digits of the pattern b
 
@@ -28,7 +29,7 @@ whole_is b l = omega arith
 
 -- ---- what is known of x past the first test
 
-module _ (c : tie.Else1) where
+module _ (c : tie.Else-x) where
   abbrev x : Float
   x = c.before.args.x
 
@@ -36,10 +37,10 @@ module _ (c : tie.Else1) where
   b = to_bits binary64 x
 
   held : T (fits binary64 x)
-  held = subst T (sym c.before.well-formed.0.1) tt
+  held = subst T (sym c.before.well_formed.0.1) tt
 
   no_nan : T (not (is_nan x))
-  no_nan = not-nan x c.if1.false
+  no_nan = not-nan x c.if-x.false
 
   is_x : at binary64 b ≡ x
   is_x = read binary64 x held
@@ -71,56 +72,59 @@ module _ (c : tie.Else1) where
   rest-high h = subst Here (rest_infinite (b % top binary64) (omega arith)) (⊎_elim (λ k. k) (λ l. to_infinite (leb (top binary64) b) (E b) (t b) digits h l) in-last)
 
 -- what the arms leave, by the arm that was taken
-sized : (c : tie.Joined2-2) → Here c.before c.if2.rounded
+sized : (c : tie.Joined-exponent-lt897) → Here c.before c.if-exponent-lt897.rounded
 sized c =
     let n = c.before in
-    ⊎_elim
-    (λ w.
-    subst (λ (z : ℕ). Here n z) (sym (w.3 ∙ w.2.ensures))
-    (to_normal (leb (top binary64) (b n)) (E (b n)) (t (b n)) (digits n) (b n % top binary64 - rebias * hid binary64) (whole_is (b n) w.0.left) w.0.left (omega (arith, w.1.taken))))
-    (λ w.
-    subst (λ (z : ℕ). Here n z) (sym (w.2 ∙ w.1.ensures))
-    (⊎_elim (λ v. rest-low n (omega (arith, v.taken))) (λ v. rest-high n (omega (arith, v.1.left))) w.0.came))
-    c.if2.branch
+    elim c.if-exponent-lt897.branch [
+      | in-897-to-1150 w ↦
+          subst (λ (z : ℕ). Here n z) (sym (w.rounded-is ∙ w.shift_nearest-rounded.ensures))
+          (to_normal (leb (top binary64) (b n)) (E (b n)) (t (b n)) (digits n) (b n % top binary64 - rebias * hid binary64) (whole_is (b n) w.in-897-to-1150.if-exponent-lt897-own.false) w.in-897-to-1150.if-exponent-lt897-own.false (omega (arith, w.in-897-to-1150.if-exponent-lt1151-own.true)))
+      | in_default w ↦
+          subst (λ (z : ℕ). Here n z) (sym (w.rounded-is ∙ w.narrow_rest-rounded.ensures))
+          (elim w.in_default.branch [
+            | in_default-via-then-exponent-lt897 v ↦ rest-low n (omega (arith, v.if-exponent-lt897-1.true))
+            | in_default-via-else-exponent-lt897+else-exponent-lt1151 v ↦ rest-high n (omega (arith, v.if-exponent-lt1151-1.false))
+          ])
+    ]
 
 -- the sign's bit, and then the pattern
-abbrev signed : tie.Joined2-2 → ℕ
-signed c = b c.before / top binary64 * top binary32 % 2 ^ 64 + c.if2.rounded
+abbrev signed : tie.Joined-exponent-lt897 → ℕ
+signed c = b c.before / top binary64 * top binary32 % 2 ^ 64 + c.if-exponent-lt897.rounded
 
-narrowed : (c : tie.Joined2-2) → of_bits binary32 (signed c) ≡ narrow_of (x c.before)
+narrowed : (c : tie.Joined-exponent-lt897) → of_bits binary32 (signed c) ≡ narrow_of (x c.before)
 unfolding narrow_of
 narrowed c =
     let n = c.before in
     let l : b n < 2 * top binary64 = to_bits-lt binary64 (x n) (held n) in
-    ap (λ (z : ℕ). of_bits binary32 (z + c.if2.rounded)) (small (b n) l ∙ sign_is binary64 (b n) (top binary32) l) ∙ (sized c).1 ∙ ap (narrow_at binary32) (is_x n)
+    ap (λ (z : ℕ). of_bits binary32 (z + c.if-exponent-lt897.rounded)) (small (b n) l ∙ sign_is binary64 (b n) (top binary32) l) ∙ (sized c).1 ∙ ap (narrow_at binary32) (is_x n)
   where
     small : (b : ℕ) → b < 2 * top binary64 → b / top binary64 * top binary32 % 2 ^ 64 ≡ b / top binary64 * top binary32
     small b l = omega arith
 
-returns : tie.Need-returns
+returns : tie.Need-returns-then-x
 unfolding narrow_of narrow_at
-returns c = quotient-nan ∙ sym (ap narrow_of (nan_of c.before.args.x c.if1.true))
+returns c = quotient-nan ∙ sym (ap narrow_of (nan_of c.before.args.x c.if-x.true))
 
-float-to-bits-bits : tie.Need-float-to-bits-bits
+float-to-bits-bits : tie.Need-float_to_bits-bits
 float-to-bits-bits c = no_nan c
 
-add_result_lem : tie.Need-overflow-add-result
+add_result_lem : tie.Need-overflow_add-result
 add_result_lem c = omega (arith, (sized c.before).0)
 
-cast-result : tie.Need-overflow-cast-result
+cast-result : tie.Need-overflow_cast-result
 cast-result c = omega (arith, (sized c.before).0, to_bits-lt binary64 (x c.before.before) (held c.before.before))
 
-float-from-bits-result : tie.Need-float-from-bits-result
+float-from-bits-result : tie.Need-float_from_bits-result
 unfolding narrow_of
 float-from-bits-result c =
     let n = c.before.before in
     may_read binary32 (signed c.before) (narrow_of (x n)) (narrowed c.before) (narrow_no_nan binary32 (x n) (no_nan n))
 
-returns-2 : tie.Need-returns-2
+returns-2 : tie.Need-returns
 returns-2 c = narrowed c.before
 
-pub narrow-spec : {M : Type 1} → statement M
-narrow-spec =
+pub narrow_spec : {M : Type 1} → statement M
+narrow_spec =
     tie.close
     (tie.spec
     returns

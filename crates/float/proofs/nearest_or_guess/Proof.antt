@@ -13,20 +13,20 @@ bits = suc (prec binary32)
 square-lt : (g : ℕ) → g < 2 ^ bits → g * g < 2 ^ (bits + bits)
 square-lt g l = product_lt bits bits l l
 
-mul-square : tie.Need-overflow-mul-square
+mul-square : tie.Need-overflow_mul-square
 mul-square c = omega (arith, square-lt c.args.guess c.requires.1.1)
 
-add-if1 : tie.Need-overflow-add-if1
+add-if1 : tie.Need-overflow_add-n
 add-if1 c = omega arith
 
-add-if2 : tie.Need-overflow-add-if2
+add-if2 : tie.Need-overflow_add-square
 add-if2 c = omega (arith, square-lt c.before.args.guess c.before.requires.1.1)
 
-returns : tie.Need-returns
+returns : tie.Need-returns-then-n-square
 returns c = nearest-only c.before.before.args.n c.before.before.args.guess (omega arith)
 
-returns-2 : tie.Need-returns-2
-returns-2 c = c.nearest-root.ensures
+returns-2 : tie.Need-returns
+returns-2 c = c.nearest_root.ensures
 
-pub nearest-or-guess-spec : {M : Type 1} → statement M
-nearest-or-guess-spec = tie.close (tie.spec mul-square add-if1 add-if2 returns (λ c κs. search rules) returns-2)
+pub nearest_or_guess_spec : {M : Type 1} → statement M
+nearest_or_guess_spec = tie.close (tie.spec mul-square add-if1 add-if2 returns (λ c κs. search rules) returns-2)

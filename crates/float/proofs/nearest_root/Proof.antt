@@ -11,10 +11,10 @@ use Rattle.float.proofs.nearest_root.Tie as tie
 abbrev bits : ℕ
 bits = suc (prec binary32)
 
-abbrev invariant-loop : tie.invariant-loop
+abbrev invariant-loop : tie.invariant-loop-d
 invariant-loop n guess d₀ d = d < 2 ^ bits
 
-abbrev decreases-loop : tie.decreases-loop
+abbrev decreases-loop : tie.decreases-loop-d
 decreases-loop n guess d₀ d = d * d - n + (n - d * d)
 
 some : (n d : ℕ) → 1 ≤ n → n + d ≤ d * d → 1 ≤ d
@@ -31,41 +31,41 @@ lowered n (suc d) h l = let e : suc d - 1 ≡ d = omega arith in rw e (omega (ar
 raised : (n d : ℕ) → d * d + d < n → (d + 1) * (d + 1) - n + (n - (d + 1) * (d + 1)) < d * d - n + (n - d * d)
 raised n d l = omega (arith, square_suc d)
 
-loop-holds : tie.Need-loop-init invariant-loop decreases-loop
+loop-holds : tie.Need-loop-d-init invariant-loop decreases-loop
 loop-holds c = c.requires.1.1
 
-mul-square : tie.Need-overflow-mul-square invariant-loop decreases-loop
-mul-square c = omega (arith, product_lt bits bits c.loop.invariant c.loop.invariant)
+mul-square : tie.Need-overflow_mul-square invariant-loop decreases-loop
+mul-square c = omega (arith, product_lt bits bits c.loop-d.invariant c.loop-d.invariant)
 
-add-if1 : tie.Need-overflow-add-if1 invariant-loop decreases-loop
+add-if1 : tie.Need-overflow_add-n invariant-loop decreases-loop
 add-if1 c = omega arith
 
-sub-d : tie.Need-overflow-sub-d invariant-loop decreases-loop
-sub-d c = some c.before.before.args.n c.before.loop.d c.before.before.requires.0 (omega arith)
+sub-d : tie.Need-overflow_sub-d invariant-loop decreases-loop
+sub-d c = some c.before.before.args.n c.before.loop-d.d c.before.before.requires.0 (omega arith)
 
-loop-less : tie.Need-loop-smaller invariant-loop decreases-loop
-loop-less c = lowered c.before.before.args.n c.before.loop.d c.before.before.requires.0 (omega arith)
+loop-less : tie.Need-loop-d-smaller-then-n-d invariant-loop decreases-loop
+loop-less c = lowered c.before.before.args.n c.before.loop-d.d c.before.before.requires.0 (omega arith)
 
-loop-again : tie.Need-loop-preserved invariant-loop decreases-loop
+loop-again : tie.Need-loop-d-preserved-then-n-d invariant-loop decreases-loop
 loop-again c = omega arith
 
-add-if2 : tie.Need-overflow-add-if2 invariant-loop decreases-loop
-add-if2 c = omega (arith, product_lt bits bits c.before.loop.invariant c.before.loop.invariant)
+add-if2 : tie.Need-overflow_add-square invariant-loop decreases-loop
+add-if2 c = omega (arith, product_lt bits bits c.before.loop-d.invariant c.before.loop-d.invariant)
 
-add-d : tie.Need-overflow-add-d invariant-loop decreases-loop
+add-d : tie.Need-overflow_add-d invariant-loop decreases-loop
 add-d c = omega arith
 
-loop-less-2 : tie.Need-loop-smaller-2 invariant-loop decreases-loop
-loop-less-2 c = raised c.before.before.before.args.n c.before.before.loop.d (omega arith)
+loop-less-2 : tie.Need-loop-d-smaller invariant-loop decreases-loop
+loop-less-2 c = raised c.before.before.before.args.n c.before.before.loop-d.d (omega arith)
 
-loop-again-2 : tie.Need-loop-preserved-2 invariant-loop decreases-loop
-loop-again-2 c = omega (arith, small (prec binary32) c.before.before.before.args.n c.before.before.loop.d c.before.before.before.requires.1.0 (omega arith))
+loop-again-2 : tie.Need-loop-d-preserved invariant-loop decreases-loop
+loop-again-2 c = omega (arith, small (prec binary32) c.before.before.before.args.n c.before.before.loop-d.d c.before.before.before.requires.1.0 (omega arith))
 
-returns : tie.Need-returns invariant-loop decreases-loop
-returns c = nearest-only c.before.before.before.args.n c.before.before.loop.d (omega arith)
+returns : tie.Need-returns-else-square-d invariant-loop decreases-loop
+returns c = nearest-only c.before.before.before.args.n c.before.before.loop-d.d (omega arith)
 
-pub nearest-root-spec : {M : Type 1} → statement M
-nearest-root-spec =
+pub nearest_root_spec : {M : Type 1} → statement M
+nearest_root_spec =
     tie.close
     (tie.spec
     invariant-loop

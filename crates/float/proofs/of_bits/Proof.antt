@@ -17,11 +17,11 @@ nan-by (fin s m e) h = absurd (false≢true h)
 nan-above : (b : ℕ) → last binary32 < b % top binary32 → nan ≡ of_bits binary32 b
 nan-above b h = nan-by (of_bits binary32 b) (sym (nan_bits_is binary32 b) ∙ nan_bits_above binary32 b ∙ lt-ltb (last binary32) (b % top binary32) h)
 
-returns : tie.Need-returns
-returns c = quotient-nan ∙ nan-above c.before.args.b c.if1.true
+returns : tie.Need-returns-then-b-gt2139095040
+returns c = quotient-nan ∙ nan-above c.before.args.b c.if-b-gt2139095040.true
 
-float-from-bits-result : tie.Need-float-from-bits-result
-float-from-bits-result c = subst (λ (t : Bool). T (not t)) (sym (nan_bits_above binary32 _ ∙ le-ltb _ _ c.if1.false)) tt
+float-from-bits-result : tie.Need-float_from_bits-result
+float-from-bits-result c = subst (λ (t : Bool). T (not t)) (sym (nan_bits_above binary32 _ ∙ le-ltb _ _ c.if-b-gt2139095040.false)) tt
 
-pub of-bits-spec : {M : Type 1} → statement M
-of-bits-spec = tie.close (tie.spec returns float-from-bits-result (λ c. search rules))
+pub of_bits_spec : {M : Type 1} → statement M
+of_bits_spec = tie.close (tie.spec returns float-from-bits-result (λ c. search rules))

@@ -42,27 +42,27 @@ module _ (p : ℕ) (P : p < (ones binary32 + prec binary32) * hid binary32) wher
   put : of_bits binary32 (dropped binary32 (t p) * hid binary32 + root_digits binary32 (m p) (t p)) ≡ root_at binary32 (m p * 2 ^ t p)
   put = built_at binary32 (m p) (t p) (omega arith) (omega arith) (omega arith) (omega arith)
 
-nearest-or-guess-requires : tie.Need-nearest-or-guess-requires
+nearest-or-guess-requires : tie.Need-nearest_or_guess-d-requires
 nearest-or-guess-requires c κs = let p = c.before.args.pattern in omega (arith, n-lt p, n_pos p, unwrapped p)
 
 -- what is known after the search
-module _ (c : tie.After-nearest-or-guess) where
+module _ (c : tie.After-nearest_or_guess-d) where
   abbrev p : ℕ
   p = c.before.before.args.pattern
 
   abbrev d : ℕ
-  d = c.nearest-or-guess.result
+  d = c.nearest_or_guess-d.result
 
   d-is : d ≡ root_digits binary32 (m p) (t p)
-  d-is = c.nearest-or-guess.ensures ∙ searched p
+  d-is = c.nearest_or_guess-d.ensures ∙ searched p
 
   d-lt : d < 2 ^ prec binary32
   d-lt = omega (arith, d-is, few p c.before.before.requires)
 
-cast-result : tie.Need-overflow-cast-result
+cast-result : tie.Need-overflow_cast-result
 cast-result c = omega (arith, d-lt c)
 
-add-result-2 : tie.Need-overflow-add-result-2
+add-result-2 : tie.Need-overflow_add-result-2
 add-result-2 c = omega (arith, d-lt c)
 
 returns : tie.Need-returns
@@ -74,11 +74,11 @@ returns c =
     field : (p : ℕ) → p < (ones binary32 + prec binary32) * hid binary32 → (p / hid binary32 + (raised binary32 + 1 - prec binary32)) / 2 * hid binary32 % 2 ^ 32 ≡ dropped binary32 (t p) * hid binary32
     field p l = omega arith
 
-float-from-bits-result : tie.Need-float-from-bits-result
+float-from-bits-result : tie.Need-float_from_bits-result
 float-from-bits-result c = may_read binary32 _ (root_at binary32 (m (p c) * 2 ^ t (p c))) (returns c) (root_no_nan binary32 (m (p c) * 2 ^ t (p c)))
 
-pub root-spec : {M : Type 1} → statement M
-root-spec =
+pub root_spec : {M : Type 1} → statement M
+root_spec =
     tie.close
     (tie.spec
     (λ c. search rules)

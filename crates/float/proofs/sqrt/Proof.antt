@@ -21,7 +21,7 @@ places n = shift binary32 width n
 
 -- ---- what is known of x above zero
 
-module _ (c : tie.Then1) where
+module _ (c : tie.Then-x) where
   abbrev x : Float
   x = c.before.args.x
 
@@ -29,16 +29,16 @@ module _ (c : tie.Then1) where
   b = to_bits binary32 x
 
   held : T (fits binary32 x)
-  held = subst T (sym c.before.well-formed.0.1) tt
+  held = subst T (sym c.before.well_formed.0.1) tt
 
   no_nan : T (not (is_nan x))
-  no_nan = above_no_nan x c.if1.true
+  no_nan = above_no_nan x c.if-x.true
 
   clear : b < top binary32
-  clear = above-clear x held c.if1.true
+  clear = above-clear x held c.if-x.true
 
   some : 0 < b
-  some = above_some x held c.if1.true
+  some = above_some x held c.if-x.true
 
   is_x : of_fields binary32 false (b / hid binary32) (b % hid binary32) ≡ x
   is_x = sym (clear_at binary32 b clear) ∙ read binary32 x held
@@ -49,12 +49,12 @@ unfolding sqrt_of
 rooted p m t v r z d e h = h ∙ ap (λ (k : ℕ). root_at binary32 (k * 2 ^ (p / hid binary32 + raised binary32))) d ∙ ap (λ (k : ℕ). root_at binary32 (m * 2 ^ k)) e ∙ sym (shape_root binary32 v m t z)
 
 -- in the arm of the field 0: x is subnormal
-module _ (c : tie.At-match-keys1) where
+module _ (c : tie.In-0) where
   abbrev n : ℕ
   n = b c.before
 
   small : n < hid binary32
-  small = omega (arith, c.match.keys1, clear c.before)
+  small = omega (arith, c.in-0.is, clear c.before)
 
   shifts : (width - prec binary32 ≤ count_leading_zeros width n) × (places n < prec binary32) × (hid binary32 ≤ n * 2 ^ places n) × (n * 2 ^ places n < 2 ^ prec binary32)
   shifts = shift_of binary32 width n (lit≤ tt) (some c.before) small
@@ -68,28 +68,28 @@ module _ (c : tie.At-match-keys1) where
       (sym (ap (λ (z : ℕ). of_fields binary32 false z (n % hid binary32)) (div-eq_of_lt small) ∙ ap (of_fields binary32 false 0) (mod-eq_of_lt small)) ∙ is_x c.before)
       (shape_subnormal binary32 width n (lit≤ tt) (some c.before) small)
 
-float-to-bits-bits : tie.Need-float-to-bits-bits
+float-to-bits-bits : tie.Need-float_to_bits-bits
 float-to-bits-bits c = no_nan c
 
-cast-exponent : tie.Need-overflow-cast-exponent
+cast-exponent : tie.Need-overflow_cast-exponent
 cast-exponent c = omega (arith, clear c)
 
-sub-zeros : tie.Need-overflow-sub-zeros
+sub-zeros : tie.Need-overflow_sub-zeros
 sub-zeros c = (shifts c).0
 
-shl-root : tie.Need-overflow-shl-root
+shl-root : tie.Need-overflow_shl-bits
 shl-root c = omega (arith, (shifts c).1)
 
-sub-root : tie.Need-overflow-sub-root
+sub-root : tie.Need-overflow_sub-zeros-in-0
 sub-root c = omega (arith, (shifts c).1)
 
-add-root : tie.Need-overflow-add-root
+add-root : tie.Need-overflow_add-bits
 add-root c = omega (arith, (shifts c).3, unwrapped c)
 
 root-requires : tie.Need-root-requires
 root-requires c κs = omega (arith, (shifts c).3, unwrapped c)
 
-returns : tie.Need-returns
+returns : tie.Need-returns-in-0
 returns c =
     let k = c.before in
     let s = places (n k) in
@@ -99,34 +99,34 @@ returns c =
     c.root.ensures
 
 -- the infinity
-returns-2 : tie.Need-returns-2
+returns-2 : tie.Need-returns-in-255
 unfolding sqrt_of sqrt_at
 returns-2 c =
     let s = c.before in
-    let k : b s / hid binary32 ≡ ones binary32 = omega (arith, c.match.keys2, clear s) in
+    let k : b s / hid binary32 ≡ ones binary32 = omega (arith, c.in-255.is, clear s) in
     let e : inf false ≡ x s = sym (infinite_at binary32 false (b s / hid binary32) (b s % hid binary32) k (subst (λ (v : Float). T (not (is_nan v))) (sym (is_x s)) (no_nan s))) ∙ is_x s in
     subst (λ (v : Float). v ≡ sqrt_of v) e refl
 
-returns-3 : tie.Need-returns-3
+returns-3 : tie.Need-returns-in-1-to-254
 returns-3 c =
     let m = c.before in
     let n = b m.before in
     let E = n / hid binary32 in
     let t = n % hid binary32 in
-    rooted (n + prec binary32 * hid binary32) (t + hid binary32) (E + (low binary32 - 1)) (x m.before) c.root2.result
-    (subst (λ (v : Float). Shape binary32 v (t + hid binary32) (E + (low binary32 - 1))) (is_x m.before) (shape_normal binary32 E t (omega arith) (omega (arith, m.match.rest.0.1)) (omega (arith, m.match.rest.1, clear m.before))))
+    rooted (n + prec binary32 * hid binary32) (t + hid binary32) (E + (low binary32 - 1)) (x m.before) c.root-in-1-to-254.result
+    (subst (λ (v : Float). Shape binary32 v (t + hid binary32) (E + (low binary32 - 1))) (is_x m.before) (shape_normal binary32 E t (omega arith) (omega (arith, m.in-1-to-254.in-1-to-254-own.rest.0.1)) (omega (arith, m.in-1-to-254.in-1-to-254-own.rest.1, clear m.before))))
     (omega arith)
     (omega arith)
-    c.root2.ensures
+    c.root-in-1-to-254.ensures
 
-returns-4 : tie.Need-returns-4
-returns-4 c = zero-root c.before.before.args.x c.if2.true
+returns-4 : tie.Need-returns-then-x-2
+returns-4 c = zero-root c.before.before.args.x c.if-x-2.true
 
-returns-5 : tie.Need-returns-5
-returns-5 c = quotient-nan ∙ sym (below_root c.before.before.args.x c.before.if1.false c.if2.false)
+returns-5 : tie.Need-returns-else-x-2
+returns-5 c = quotient-nan ∙ sym (below_root c.before.before.args.x c.before.if-x.false c.if-x-2.false)
 
-pub sqrt-spec : {M : Type 1} → statement M
-sqrt-spec =
+pub sqrt_spec : {M : Type 1} → statement M
+sqrt_spec =
     tie.close
     (tie.spec
     float-to-bits-bits
@@ -137,7 +137,7 @@ sqrt-spec =
     add-root
     root-requires
     (λ c. omega (arith, clear c.before))
-    (λ c κs. omega (arith, clear c.before, c.match.rest))
+    (λ c κs. omega (arith, clear c.before, c.in-1-to-254.in-1-to-254-own.rest))
     returns
     returns-2
     returns-3

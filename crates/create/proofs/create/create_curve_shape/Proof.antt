@@ -10,7 +10,7 @@ use Rattle.create.specs.Create.{params_of}
 use Rattle.create.specs.declared.create.Params.{Params}
 use Rattle.create.proofs.Accepted.{Accepted, accepted}
 use Rattle.create.proofs.Counts.{part-count-le, product_lt}
-use Rattle.create.proofs.Created.{refused, answered}
+use Rattle.create.proofs.CreatedLemmas.{refused, answered}
 use Rattle.create.proofs.create.create_curve_shape.Statement.{statement}
 use Rattle.create.proofs.create.create_curve_shape.Tie as tie
 

@@ -15,7 +15,7 @@ abbrev off : ℕ
 off = 12
 
 -- the numbers of the code
-module _ (c : tie.After-bend) where
+module _ (c : tie.After-bend-rise) where
   abbrev past : ℕ
   past = c.before.before.args.pattern % 2 ^ part
 
@@ -23,10 +23,10 @@ module _ (c : tie.After-bend) where
   left = 2 ^ part - 1 - past
 
   abbrev line : ℕ
-  line = c.before.chord.result
+  line = c.before.chord-line.result
 
   abbrev rise : ℕ
-  rise = c.bend.result
+  rise = c.bend-rise.result
 
   both-lt : past * left < 2 ^ (part + part)
   both-lt = product_lt part part (omega arith) (omega arith)
@@ -37,26 +37,26 @@ module _ (c : tie.After-bend) where
   rise-lt : rise * (past * left / 2 ^ off) < 2 ^ (entry + (part + part - off))
   rise-lt = product_lt entry (part + part - off) (omega arith) (omega (arith, both-lt))
 
-mul-result : tie.Need-overflow-mul-result
+mul-result : tie.Need-overflow_mul-result
 mul-result c = omega (arith, slope-lt c)
 
-add_result_lem : tie.Need-overflow-add-result
+add_result_lem : tie.Need-overflow_add-result
 add_result_lem c = omega (arith, slope-lt c)
 
-mul-result-2 : tie.Need-overflow-mul-result-2
+mul-result-2 : tie.Need-overflow_mul-result-2
 mul-result-2 c = omega (arith, both-lt c)
 
-mul-result-3 : tie.Need-overflow-mul-result-3
+mul-result-3 : tie.Need-overflow_mul-result-3
 mul-result-3 c = omega (arith, rise-lt c)
 
-add-result-2 : tie.Need-overflow-add-result-2
+add-result-2 : tie.Need-overflow_add-result-2
 add-result-2 c = omega (arith, slope-lt c, rise-lt c)
 
 returns : tie.Need-returns
 returns c = omega (arith, slope-lt c, rise-lt c)
 
-pub estimate-spec : {M : Type 1} → statement M
-estimate-spec =
+pub estimate_spec : {M : Type 1} → statement M
+estimate_spec =
     tie.close
     (tie.spec
     (λ c. search rules)

@@ -3,20 +3,20 @@ use Rattle.std.proofs.Common.{rules}
 use Rattle.float.proofs.rounding.at_half.Statement.{statement}
 use Rattle.float.proofs.rounding.at_half.Tie as tie
 
-enum_told : tie.Need-enum-told
+enum_told : tie.Need-enum_told-1
 enum_told c = search rules
 
-enum-told-2 : tie.Need-enum-told-2
+enum-told-2 : tie.Need-enum_told-in-Even
 enum-told-2 c = search rules
 
-returns : tie.Need-returns
-returns c = rw (c.before.enum_told.given.1, c.if1.true)
+returns : tie.Need-returns-then-negative
+returns c = rw (c.before.in-Up.is, c.if-negative.true)
 
-returns-2 : tie.Need-returns-2
-returns-2 c = rw (c.before.enum_told.given.1, c.if1.false)
+returns-2 : tie.Need-returns-else-negative
+returns-2 c = rw (c.before.in-Up.is, c.if-negative.false)
 
-returns-3 : tie.Need-returns-3
-returns-3 c = rw c.enum-told2.given.1
+returns-3 : tie.Need-returns-in-Even
+returns-3 c = rw c.in-Even.is
 
-pub at-half-spec : {M : Type 1} → statement M
-at-half-spec = tie.close (tie.spec enum_told enum-told-2 returns returns-2 returns-3)
+pub at_half_spec : {M : Type 1} → statement M
+at_half_spec = tie.close (tie.spec enum_told enum-told-2 returns returns-2 returns-3)

@@ -12,7 +12,7 @@ use Rattle.float.proofs.rounding.round_product.Tie as tie
 
 -- ---- the sign, the exponent's field and the digits of the pattern
 
-module _ (c : tie.After-to-bits) where
+module _ (c : tie.After-to_bits-bits) where
   abbrev x : Float
   x = c.before.args.x
 
@@ -23,7 +23,7 @@ module _ (c : tie.After-to-bits) where
   t = c.before.args.ties
 
   abbrev b : ℕ
-  b = c.to-bits.result
+  b = c.to_bits-bits.result
 
   abbrev s : Bool
   s = leb (top binary32) b
@@ -42,61 +42,61 @@ module _ (c : tie.After-to-bits) where
 
   -- what an arm gives for the fields, it gives for x
   of_fields : (r : Rounded) → r ≡ product_of t k (at binary32 b) → r ≡ product_of t k x
-  of_fields r h = h ∙ ap (product_of t k) (ap (at binary32) c.to-bits.ensures ∙ read binary32 x (subst T (sym c.before.well-formed.0.1) tt))
+  of_fields r h = h ∙ ap (product_of t k) (ap (at binary32) c.to_bits-bits.ensures ∙ read binary32 x (subst T (sym c.before.well_formed.0.1) tt))
 
   small : (d + hid binary32) * k < 2 ^ 56
   small = product_small binary32 32 t k s E d K D
 
-mul-product : tie.Need-overflow-mul-product
+mul-product : tie.Need-overflow_mul-product
 mul-product c = omega (arith, small c)
 
-shift-with-tie-requires : tie.Need-shift-with-tie-requires
-shift-with-tie-requires c κs = let h = c.before.before.before in omega (arith, small h, subst (λ (y : ℕ). y ≤ 1) (sym c.at-half.ensures) (half_rule (t h) (s h) _))
+shift-with-tie-requires : tie.Need-shift_with_tie-requires
+shift-with-tie-requires c κs = let h = c.before.before in omega (arith, small h, subst (λ (y : ℕ). y ≤ 1) (sym c.at_half-tie.ensures) (half_rule (t h) (s h) _))
 
-returns : tie.Need-returns
-returns c = let h = c.before in of_fields h _ (arm_none binary32 32 (t h) (k h) (s h) (E h) (d h) (K h) (D h) (omega (arith, c.if1.true)) (omega (arith, c.if1.true)))
+returns : tie.Need-returns-in-0-to-93
+returns c = let h = c.before in of_fields h _ (arm_none binary32 32 (t h) (k h) (s h) (E h) (d h) (K h) (D h) (omega (arith, c.in-0-to-93.if-exponent-lt94-own.true)) (omega (arith, c.in-0-to-93.if-exponent-lt94-own.true)))
 
-returns-2 : tie.Need-returns-2
+returns-2 : tie.Need-returns-in-94-to-149
 unfolding nearest_to
 returns-2 c =
     let a = c.before.before in
-    let h = a.before.before.before in
+    let h = a.before.before in
     let p = (d h + hid binary32) * k h in
-    let l : 94 ≤ E h = a.before.before.if1.false in
-    let g : E h < 150 = a.before.if2.true in
+    let l : 94 ≤ E h = a.before.in-94-to-149.if-exponent-lt94-own.false in
+    let g : E h < 150 = a.before.in-94-to-149.if-exponent-lt150-own.true in
     c.hold.ensures
-    ∙ ap size_held (c.before.shift-with-tie.ensures ∙ ap (λ (y : ℕ). nearest_to (λ _. y) p (2 ^ (150 - E h))) a.at-half.ensures)
+    ∙ ap size_held (c.before.shift_with_tie.ensures ∙ ap (λ (y : ℕ). nearest_to (λ _. y) p (2 ^ (150 - E h))) a.at_half-tie.ensures)
     ∙ of_fields h _ (arm_cut binary32 32 (t h) (k h) (s h) (E h) (d h) (K h) (D h) (omega arith) (omega arith) (omega arith))
 
-returns-3 : tie.Need-returns-3
+returns-3 : tie.Need-returns-in-150-to-158
 returns-3 c =
-    let h = c.before.before.before.before in
-    let l : 150 ≤ E h = c.before.before.if2.false in
-    let g : E h < 159 = c.before.if3.true in
-    c.hold2.ensures ∙ ap size_held (shl_exact 56 (E h - 150) 64 (small h) (omega arith))
+    let h = c.before.before in
+    let l : 150 ≤ E h = c.before.in-150-to-158.if-exponent-lt150-own.false in
+    let g : E h < 159 = c.before.in-150-to-158.if-exponent-lt159-own.true in
+    c.hold-in-150-to-158.ensures ∙ ap size_held (shl_exact 56 (E h - 150) 64 (small h) (omega arith))
     ∙ of_fields h _ (arm_whole binary32 32 (t h) (k h) (s h) (E h) (d h) (K h) (D h) (omega arith) (omega arith))
 
-returns-4 : tie.Need-returns-4
+returns-4 : tie.Need-returns-then-product-eq0
 returns-4 c =
-    let h = c.before.before.before.before.before in
-    let l : 159 ≤ E h = c.before.before.if3.false in
-    let g : E h < 255 = c.before.if4.true in
-    of_fields h _ (arm_zero binary32 32 (t h) (k h) (s h) (E h) (d h) (K h) (D h) g (omega arith) c.if5.true)
+    let h = c.before.before in
+    let l : 159 ≤ E h = c.before.in-159-to-254.if-exponent-lt159-own.false in
+    let g : E h < 255 = c.before.in-159-to-254.if-exponent-lt255-own.true in
+    of_fields h _ (arm_zero binary32 32 (t h) (k h) (s h) (E h) (d h) (K h) (D h) g (omega arith) c.if-product-eq0.true)
 
-returns-5 : tie.Need-returns-5
+returns-5 : tie.Need-returns-else-product-eq0
 returns-5 c =
-    let h = c.before.before.before.before.before in
-    let l : 159 ≤ E h = c.before.before.if3.false in
-    let g : E h < 255 = c.before.if4.true in
-    of_fields h _ (arm_large binary32 32 (t h) (k h) (s h) (E h) (d h) (K h) (D h) g (omega arith) 9 (omega arith) (lit≤ tt) c.if5.false)
+    let h = c.before.before in
+    let l : 159 ≤ E h = c.before.in-159-to-254.if-exponent-lt159-own.false in
+    let g : E h < 255 = c.before.in-159-to-254.if-exponent-lt255-own.true in
+    of_fields h _ (arm_large binary32 32 (t h) (k h) (s h) (E h) (d h) (K h) (D h) g (omega arith) 9 (omega arith) (lit≤ tt) c.if-product-eq0.false)
 
-returns-6 : tie.Need-returns-6
+returns-6 : tie.Need-returns-in_default
 returns-6 c =
-    let h = c.before.before.before.before in
-    of_fields h _ (arm_last binary32 (t h) (k h) (s h) (E h) (d h) (le_antisymm (field_in binary32 (b h)) c.if4.false))
+    let h = c.before in
+    of_fields h _ (arm_last binary32 (t h) (k h) (s h) (E h) (d h) (le_antisymm (field_in binary32 (b h)) c.in_default.if-exponent-lt255-own.false))
 
-pub round-product-spec : {M : Type 1} → statement M
-round-product-spec =
+pub round_product_spec : {M : Type 1} → statement M
+round_product_spec =
     tie.close
     (tie.spec
     (λ c κs. search rules)

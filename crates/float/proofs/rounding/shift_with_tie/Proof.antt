@@ -20,13 +20,13 @@ half_pos s h = subst (λ (x : ℕ). 1 ≤ x) (sym (half_is s h)) (pow_pos (s - 1
 half_le : (s : ℕ) → s < spare → half s ≤ 2 ^ (spare - 1)
 half_le s h = subst (λ (x : ℕ). x ≤ 2 ^ (spare - 1)) (sym (half_is s h)) (pow_mono {i = s - 1} {j = spare - 1} (omega arith))
 
-sub-result : tie.Need-overflow-sub-result
+sub-result : tie.Need-overflow_sub-result
 sub-result c = omega (arith, half_pos c.args.s c.requires.1.1.0)
 
-add_result_lem : tie.Need-overflow-add-result
+add_result_lem : tie.Need-overflow_add-result
 add_result_lem c = omega (arith, half_le c.args.s c.requires.1.1.0)
 
-add-result-2 : tie.Need-overflow-add-result-2
+add-result-2 : tie.Need-overflow_add-result-2
 add-result-2 c = omega (arith, half_le c.args.s c.requires.1.1.0)
 
 returns : tie.Need-returns
@@ -37,5 +37,5 @@ returns c =
     ap (λ (x : ℕ). (m + (x - 1) + t) / 2 ^ s) (half_is s c.requires.1.1.0)
     ∙ subst (λ (x : ℕ). (m + (2 ^ (s - 1) - 1) + t) / x ≡ nearest_to (λ _. t) m x) (sym (twice s c.requires.1.0)) (nearest-added t m (2 ^ (s - 1)) c.requires.1.1.1 (pow_pos (s - 1)))
 
-pub shift-with-tie-spec : {M : Type 1} → statement M
-shift-with-tie-spec = tie.close (tie.spec (λ c. search rules) (λ c. search rules) sub-result add_result_lem add-result-2 (λ c. search rules) returns)
+pub shift_with_tie_spec : {M : Type 1} → statement M
+shift_with_tie_spec = tie.close (tie.spec (λ c. search rules) (λ c. search rules) sub-result add_result_lem add-result-2 (λ c. search rules) returns)
