@@ -6,12 +6,12 @@ use Rattle.geometry.specs.Pbrt.{gamma_of}
 use Rattle.geometry.proofs.pbrt.gamma.Statement.{statement}
 use Rattle.geometry.proofs.pbrt.gamma.Tie as tie
 
-int-to-float-error : tie.Need-int-to-float-error
+int-to-float-error : tie.Need-int_to_float-error
 int-to-float-error c = search rules
 
 returns : tie.Need-returns
 unfolding gamma_of
 returns c = refl
 
-pub gamma-spec : {M : Type 1} → statement M
-gamma-spec = tie.close (tie.spec int-to-float-error returns)
+pub gamma_spec : {M : Type 1} → statement M
+gamma_spec = tie.close (tie.spec int-to-float-error returns)

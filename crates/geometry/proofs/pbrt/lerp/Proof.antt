@@ -9,5 +9,5 @@ returns : tie.Need-returns
 unfolding lerp_of
 returns c = refl
 
-pub lerp-spec : {M : Type 1} → statement M
-lerp-spec = tie.close (tie.spec returns)
+pub lerp_spec : {M : Type 1} → statement M
+lerp_spec = tie.close (tie.spec returns)

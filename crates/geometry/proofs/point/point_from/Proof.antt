@@ -9,5 +9,5 @@ returns : tie.Need-returns
 unfolding point_from
 returns c = refl
 
-pub point-from-spec : {M : Type 1} → statement M
-point-from-spec = tie.close (tie.spec (λ c. search rules) (λ c. search rules) (λ c. search rules) (λ c. search rules) (λ c. search rules) (λ c. search rules) (λ c. search rules) (λ c. search rules) returns)
+pub point_from_spec : {M : Type 1} → statement M
+point_from_spec = tie.close (tie.spec (λ c. search rules) (λ c. search rules) (λ c. search rules) (λ c. search rules) (λ c. search rules) (λ c. search rules) (λ c. search rules) (λ c. search rules) returns)

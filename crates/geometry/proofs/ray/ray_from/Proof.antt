@@ -6,7 +6,7 @@ use Rattle.geometry.proofs.ray.ray_from.Tie as tie
 
 returns : tie.Need-returns
 unfolding ray_from
-returns c = rw (c.before.before.vector-from.ensures, c.before.before.before.point-from.ensures)
+returns c = rw (c.before.before.vector_from.ensures, c.before.before.before.point_from.ensures)
 
-pub ray-from-spec : {M : Type 1} → statement M
-ray-from-spec = tie.close (tie.spec (λ c κs. search rules) (λ c. search rules) (λ c κs. search rules) (λ c. search rules) (λ c. search rules) (λ c. search rules) (λ c. search rules) (λ c. search rules) (λ c. search rules) returns)
+pub ray_from_spec : {M : Type 1} → statement M
+ray_from_spec = tie.close (tie.spec (λ c κs. search rules) (λ c. search rules) (λ c κs. search rules) (λ c. search rules) (λ c. search rules) (λ c. search rules) (λ c. search rules) (λ c. search rules) (λ c. search rules) returns)

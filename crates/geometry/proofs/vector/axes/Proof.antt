@@ -5,19 +5,19 @@ use Rattle.geometry.specs.Vector.{axes_of, crossed_of}
 use Rattle.geometry.proofs.vector.axes.Statement.{statement}
 use Rattle.geometry.proofs.vector.axes.Tie as tie
 
-enum-known-v2 : tie.Need-enum-known-v2
+enum-known-v2 : tie.Need-enum_known-v2
 enum-known-v2 c = search rules
 
-enum_told : tie.Need-enum-told
+enum_told : tie.Need-enum_told-1
 enum_told c = search rules
 
-returns : tie.Need-returns
+returns : tie.Need-returns-in-Vector
 unfolding axes_of crossed_of
-returns c = rw (c.before.before.before.v2.given.1, c.before.cross-parts.ensures)
+returns c = rw (c.before.before.in-Vector.is, c.before.cross_parts-crossed.ensures)
 
-returns-2 : tie.Need-returns-2
+returns-2 : tie.Need-returns-in-ByZero
 unfolding axes_of
-returns-2 c = rw c.enum_told.given.1
+returns-2 c = rw c.in-ByZero.is
 
-pub axes-spec : {M : Type 1} → statement M
-axes-spec = tie.close (tie.spec enum-known-v2 (λ c κs. tt) enum_told returns returns-2)
+pub axes_spec : {M : Type 1} → statement M
+axes_spec = tie.close (tie.spec enum-known-v2 (λ c κs. tt) enum_told returns returns-2)

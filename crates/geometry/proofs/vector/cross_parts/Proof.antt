@@ -33,41 +33,41 @@ numbers ax ay az bx by bz e =
     let y1 = neither (bad ax) (bad ay) z1.0 in
     (y1.0, y1.1, z1.1, x2.1, y2.1, z2.1)
 
-module _ (c : tie.Else1) where
+module _ (c : tie.Else-ax-ay) where
   abbrev s : tie.Start
   s = c.before
 
   known : (bad s.args.ax ≡ false) × (bad s.args.ay ≡ false) × (bad s.args.az ≡ false) × (bad s.args.bx ≡ false) × (bad s.args.by ≡ false) × (bad s.args.bz ≡ false)
-  known = numbers s.args.ax s.args.ay s.args.az s.args.bx s.args.by s.args.bz c.if1.false
+  known = numbers s.args.ax s.args.ay s.args.az s.args.bx s.args.by s.args.bz c.if-ax-ay.false
 
   x1 : Widens s.args.ax
-  x1 = widens _ s.good.0.1 known.0
+  x1 = widens _ s.well_formed.0.1 known.0
 
   y1 : Widens s.args.ay
-  y1 = widens _ s.good.1.0.1 known.1
+  y1 = widens _ s.well_formed.1.0.1 known.1
 
   z1 : Widens s.args.az
-  z1 = widens _ s.good.1.1.0.1 known.2
+  z1 = widens _ s.well_formed.1.1.0.1 known.2
 
   x2 : Widens s.args.bx
-  x2 = widens _ s.good.1.1.1.0.1 known.3
+  x2 = widens _ s.well_formed.1.1.1.0.1 known.3
 
   y2 : Widens s.args.by
-  y2 = widens _ s.good.1.1.1.1.0.1 known.4
+  y2 = widens _ s.well_formed.1.1.1.1.0.1 known.4
 
   z2 : Widens s.args.bz
-  z2 = widens _ s.good.1.1.1.1.1.0.1 known.5
+  z2 = widens _ s.well_formed.1.1.1.1.1.0.1 known.5
 
-returns : tie.Need-returns
+returns : tie.Need-returns-then-ax-ay
 unfolding cross_of crossed_of
-returns c = rw (c.squared.ensures.0, c.squared.ensures.1, c.before.minor3.ensures, c.before.before.minor2.ensures, c.before.before.before.minor.ensures)
+returns c = rw (c.squared.ensures.0, c.squared.ensures.1, c.before.minor-then-ax-ay-2.ensures, c.before.before.minor-then-ax-ay.ensures, c.before.before.before.minor.ensures)
 
-returns-2 : tie.Need-returns-2
+returns-2 : tie.Need-returns-else-ax-ay
 unfolding cross_of crossed_of minor_of
-returns-2 c = rw (c.squared2.ensures.0, c.squared2.ensures.1, c.before.narrow3.ensures, c.before.before.narrow2.ensures, c.before.before.before.narrow.ensures)
+returns-2 c = rw (c.squared-else-ax-ay.ensures.0, c.squared-else-ax-ay.ensures.1, c.before.narrow-else-ax-ay-2.ensures, c.before.before.narrow-else-ax-ay.ensures, c.before.before.before.narrow.ensures)
 
-pub cross-parts-spec : {M : Type 1} → statement M
-cross-parts-spec =
+pub cross_parts_spec : {M : Type 1} → statement M
+cross_parts_spec =
     tie.close
     (tie.spec (λ c κs. tt) (λ c κs. tt) (λ c κs. tt) (λ c κs. tt)
     (λ c. x1 c.before) (λ c. y1 c.before.before) (λ c. z1 c.before.before.before) (λ c. x2 c.before.before.before.before) (λ c. y2 c.before.before.before.before.before) (λ c. z2 c.before.before.before.before.before.before)

@@ -9,5 +9,5 @@ returns : tie.Need-returns
 unfolding length_squared
 returns c = (refl, refl)
 
-pub squared-spec : {M : Type 1} → statement M
-squared-spec = tie.close (tie.spec returns)
+pub squared_spec : {M : Type 1} → statement M
+squared_spec = tie.close (tie.spec returns)

@@ -9,5 +9,5 @@ returns : tie.Need-returns
 unfolding vector_from
 returns c = refl
 
-pub vector-from-spec : {M : Type 1} → statement M
-vector-from-spec = tie.close (tie.spec (λ c. search rules) (λ c. search rules) (λ c. search rules) (λ c. search rules) (λ c. search rules) (λ c. search rules) (λ c. search rules) (λ c. search rules) returns)
+pub vector_from_spec : {M : Type 1} → statement M
+vector_from_spec = tie.close (tie.spec (λ c. search rules) (λ c. search rules) (λ c. search rules) (λ c. search rules) (λ c. search rules) (λ c. search rules) (λ c. search rules) (λ c. search rules) returns)

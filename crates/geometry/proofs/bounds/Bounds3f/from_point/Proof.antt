@@ -9,5 +9,5 @@ returns : tie.Need-returns
 unfolding bounds_at
 returns c = refl
 
-pub from-point-spec : {M : Type 1} → statement M
-from-point-spec = tie.close (tie.spec returns)
+pub from_point_spec : {M : Type 1} → statement M
+from_point_spec = tie.close (tie.spec returns)

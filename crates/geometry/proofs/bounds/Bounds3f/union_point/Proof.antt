@@ -6,7 +6,7 @@ use Rattle.geometry.proofs.bounds.Bounds3f.union_point.Tie as tie
 
 returns : tie.Need-returns
 unfolding with_point
-returns c = rw (c.max.ensures, c.before.min.ensures)
+returns c = rw (c.max.ensures, c.before.before.min.ensures)
 
-pub union-point-spec : {M : Type 1} → statement M
-union-point-spec = tie.close (tie.spec (λ c κs. tt) (λ c κs. tt) returns)
+pub union_point_spec : {M : Type 1} → statement M
+union_point_spec = tie.close (tie.spec (λ c κs. tt) (λ c κs. tt) returns)

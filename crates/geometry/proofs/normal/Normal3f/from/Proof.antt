@@ -9,5 +9,5 @@ returns : tie.Need-returns
 unfolding normal_of
 returns c = refl
 
-pub from-spec : {M : Type 1} → statement M
-from-spec = tie.close (tie.spec returns)
+pub from_spec : {M : Type 1} → statement M
+from_spec = tie.close (tie.spec returns)

@@ -9,5 +9,5 @@ returns : tie.Need-returns
 unfolding moved
 returns c = refl
 
-pub add-vector-spec : {M : Type 1} → statement M
-add-vector-spec = tie.close (tie.spec returns)
+pub add_vector_spec : {M : Type 1} → statement M
+add_vector_spec = tie.close (tie.spec returns)

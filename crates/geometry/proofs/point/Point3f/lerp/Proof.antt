@@ -6,7 +6,7 @@ use Rattle.geometry.proofs.point.Point3f.lerp.Tie as tie
 
 returns : tie.Need-returns
 unfolding point_lerp
-returns c = rw (c.lerp3.ensures, c.before.lerp2.ensures, c.before.before.lerp.ensures)
+returns c = rw (c.lerp-3.ensures, c.before.lerp-2.ensures, c.before.before.lerp.ensures)
 
-pub lerp-spec : {M : Type 1} → statement M
-lerp-spec = tie.close (tie.spec (λ c κs. tt) (λ c κs. tt) (λ c κs. tt) returns)
+pub lerp_spec : {M : Type 1} → statement M
+lerp_spec = tie.close (tie.spec (λ c κs. tt) (λ c κs. tt) (λ c κs. tt) returns)

@@ -6,7 +6,7 @@ use Rattle.geometry.proofs.point.Point3f.max.Tie as tie
 
 returns : tie.Need-returns
 unfolding greatest_of
-returns c = rw (c.max3.ensures, c.before.max2.ensures, c.before.before.max.ensures)
+returns c = rw (c.max-3.ensures, c.before.max-2.ensures, c.before.before.max.ensures)
 
-pub max-spec : {M : Type 1} → statement M
-max-spec = tie.close (tie.spec (λ c κs. tt) (λ c κs. tt) (λ c κs. tt) returns)
+pub max_spec : {M : Type 1} → statement M
+max_spec = tie.close (tie.spec (λ c κs. tt) (λ c κs. tt) (λ c κs. tt) returns)

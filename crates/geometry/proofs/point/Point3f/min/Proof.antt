@@ -6,7 +6,7 @@ use Rattle.geometry.proofs.point.Point3f.min.Tie as tie
 
 returns : tie.Need-returns
 unfolding least_of
-returns c = rw (c.min3.ensures, c.before.min2.ensures, c.before.before.min.ensures)
+returns c = rw (c.min-3.ensures, c.before.min-2.ensures, c.before.before.min.ensures)
 
-pub min-spec : {M : Type 1} → statement M
-min-spec = tie.close (tie.spec (λ c κs. tt) (λ c κs. tt) (λ c κs. tt) returns)
+pub min_spec : {M : Type 1} → statement M
+min_spec = tie.close (tie.spec (λ c κs. tt) (λ c κs. tt) (λ c κs. tt) returns)

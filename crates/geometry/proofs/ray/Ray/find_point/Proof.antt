@@ -6,7 +6,7 @@ use Rattle.geometry.proofs.ray.Ray.find_point.Tie as tie
 
 returns : tie.Need-returns
 unfolding point_at
-returns c = rw (c.add-vector.ensures, c.before.mul.ensures)
+returns c = rw (c.add_vector.ensures, c.before.before.mul-step.ensures)
 
-pub find-point-spec : {M : Type 1} → statement M
-find-point-spec = tie.close (tie.spec (λ c κs. tt) (λ c κs. tt) returns)
+pub find_point_spec : {M : Type 1} → statement M
+find_point_spec = tie.close (tie.spec (λ c κs. tt) (λ c κs. tt) returns)

@@ -9,5 +9,5 @@ returns : tie.Need-returns
 unfolding dot2
 returns c = refl
 
-pub dot-spec : {M : Type 1} → statement M
-dot-spec = tie.close (tie.spec returns)
+pub dot_spec : {M : Type 1} → statement M
+dot_spec = tie.close (tie.spec returns)

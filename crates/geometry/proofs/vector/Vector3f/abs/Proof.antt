@@ -6,7 +6,7 @@ use Rattle.geometry.proofs.vector.Vector3f.abs.Tie as tie
 
 returns : tie.Need-returns
 unfolding absolute
-returns c = rw (c.abs3.ensures, c.before.abs2.ensures, c.before.before.abs.ensures)
+returns c = rw (c.abs-3.ensures, c.before.abs-2.ensures, c.before.before.abs.ensures)
 
-pub abs-spec : {M : Type 1} → statement M
-abs-spec = tie.close (tie.spec (λ c κs. tt) (λ c κs. tt) (λ c κs. tt) returns)
+pub abs_spec : {M : Type 1} → statement M
+abs_spec = tie.close (tie.spec (λ c κs. tt) (λ c κs. tt) (λ c κs. tt) returns)

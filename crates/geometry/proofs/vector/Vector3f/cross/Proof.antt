@@ -6,7 +6,7 @@ use Rattle.geometry.proofs.vector.Vector3f.cross.Tie as tie
 
 returns : tie.Need-returns
 unfolding crossed_of
-returns c = rw c.before.cross-squared.ensures
+returns c = rw c.before.cross_squared-crossed.ensures
 
-pub cross-spec : {M : Type 1} → statement M
-cross-spec = tie.close (tie.spec (λ c κs. tt) returns)
+pub cross_spec : {M : Type 1} → statement M
+cross_spec = tie.close (tie.spec (λ c κs. tt) returns)

@@ -4,7 +4,7 @@ use Rattle.geometry.proofs.vector.Vector3f.cross_squared.Statement.{statement}
 use Rattle.geometry.proofs.vector.Vector3f.cross_squared.Tie as tie
 
 returns : tie.Need-returns
-returns c = c.cross-parts.ensures
+returns c = c.cross_parts.ensures
 
-pub cross-squared-spec : {M : Type 1} → statement M
-cross-squared-spec = tie.close (tie.spec (λ c κs. tt) returns)
+pub cross_squared_spec : {M : Type 1} → statement M
+cross_squared_spec = tie.close (tie.spec (λ c κs. tt) returns)

@@ -9,5 +9,5 @@ returns : tie.Need-returns
 unfolding length_squared
 returns c = refl
 
-pub length-squared-spec : {M : Type 1} → statement M
-length-squared-spec = tie.close (tie.spec returns)
+pub length_squared_spec : {M : Type 1} → statement M
+length_squared_spec = tie.close (tie.spec returns)

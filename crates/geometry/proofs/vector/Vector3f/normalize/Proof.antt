@@ -8,5 +8,5 @@ returns : tie.Need-returns
 unfolding normalized
 returns c = rw (c.div.ensures, c.before.length.ensures)
 
-pub normalize-spec : {M : Type 1} → statement M
-normalize-spec = tie.close (tie.spec (λ c κs. tt) (λ c κs. tt) returns)
+pub normalize_spec : {M : Type 1} → statement M
+normalize_spec = tie.close (tie.spec (λ c κs. tt) (λ c κs. tt) returns)
