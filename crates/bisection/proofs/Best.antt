@@ -97,7 +97,7 @@ module _ {Node St : Type 0} (low high : Node → Node) (thrown : Node → Bool) 
     best_reached : (o : Option ℕ) → Stop o → best_below sooner (reach (2 ^ d) o) pass ≡ or_else o (best_open low high thrown passes beats true s d)
     unfolding best_open
     best_reached none h = best_ext (2 ^ d) pass sooner (λ j i. beats (at j) (at i)) (λ j i l e. rw (open_test_lem stops j false (open_pass passes j e).0 (h j l)))
-    best_reached (some i) h = let a = open_pass stops i h.1 in best_top sooner pass i (is_pass i a.0 (K.stop-passes _ a.1)) (λ j l e. rw a.1)
+    best_reached (some i) h = let a = open_pass stops i h.1 in best_top sooner pass i (is_pass i a.0 (K.stop_passes _ a.1)) (λ j l e. rw a.1)
 
     entries : (n : ℕ) (o : Option ℕ) → times n enter (at_or (value 0) (miss 0) o) ≡ at_or (value n) (miss n) o
     unfolding times
@@ -105,8 +105,8 @@ module _ {Node St : Type 0} (low high : Node → Node) (thrown : Node → Bool) 
     entries (suc n) o = ap enter (entries n o) ∙ go o
       where
         go : (o : Option ℕ) → enter (at_or (value n) (miss n) o) ≡ at_or (value (suc n)) (miss (suc n)) o
-        go none = K.enter-miss n
-        go (some i) = K.enter-reply n _
+        go none = K.enter_miss n
+        go (some i) = K.enter_reply n _
 
     pub walk_best :
         let stop = first_open low high thrown stops true s d in
@@ -116,7 +116,7 @@ module _ {Node St : Type 0} (low high : Node → Node) (thrown : Node → Bool) 
     walk_best =
         let o = first_open low high thrown stops true s d in
         let is = stop_is low high thrown enter step over stops Live L true s d in
-        walk_is low high thrown enter step over stops Live L d s (miss 0) K.live-miss
+        walk_is low high thrown enter step over stops Live L d s (miss 0) K.live_miss
         ∙ ap₂ (λ n r. times n enter r) (sym (before_up_to low high thrown true s d o))
         (fold_best sooner pass leaf (value 0) (miss 0) (λ i. stop i ≡ false) leaf_skips leaf-takes leaf_chooses (reach (2 ^ d) o) (before_stop o is)
         ∙ ap (λ b. at_or (value 0) (miss 0) b) (best_reached o is))

@@ -1,5 +1,5 @@
 -- The nodes of the two halves are nodes of the whole: level k + 1 is the low half's level k, and then the high half's. Assumes nothing.
-use mathlib.Core.Bool.{Bool, true, false, not, ◌&&◌, and-false, and_true, and-eq-true_iff}
+use mathlib.Core.Bool.{Bool, true, false, not, ◌&&◌, and-false, and-true, and-eq-true_iff}
 use mathlib.Core.Logic.{◌↔◌}
 use mathlib.Core.Option.{Option, none, some}
 use mathlib.Core.Path.{◌≡◌, refl, sym, ap, ap₂, ◌∙◌}
@@ -160,7 +160,7 @@ module _ {Node : Type 0} (low high : Node → Node) where
 
     whole-count : (w : Bool) (s : Node) (d m : ℕ) → 0 < m → count_below (2 ^ 0) (λ j. is_open low high thrown w s 0 j && ltb (j * 2 ^ (suc d - 0)) m) ≡ one_if w
     unfolding count_below is_open
-    whole-count w s d m pos = rw (zero-mul, lt-ltb 0 m pos, and_true, zero-add)
+    whole-count w s d m pos = rw (zero-mul, lt-ltb 0 m pos, and-true, zero-add)
 
     level_split : (w : Bool) (s : Node) (d m k : ℕ) → k < suc d →
         count_below (2 ^ suc k) (λ j. is_open low high thrown w s (suc k) j && ltb (j * 2 ^ (suc d - suc k)) m)

@@ -145,19 +145,19 @@ module _ {Node St : Type 0} (low high : Node → Node) (thrown : Node → Bool) 
     entries_live : (n : ℕ) (r : St) → Live r → Live (times n enter r)
     unfolding times
     entries_live zero r l = l
-    entries_live (suc n) r l = L.live-enter _ (entries_live n r l)
+    entries_live (suc n) r l = L.live_enter _ (entries_live n r l)
 
     entries_over : (n : ℕ) (r : St) → over (times n enter r) ≡ over r
     unfolding times
     entries_over zero r = refl
-    entries_over (suc n) r = L.over-enter _ ∙ entries_over n r
+    entries_over (suc n) r = L.over_enter _ ∙ entries_over n r
 
     leaf_node_live : (w : Bool) (s : Node) (d j : ℕ) (q : St) → passes_at low high thrown stops w s d j ≡ false → Live q → Live (leaf_node w s d j q)
     unfolding passes_at
     leaf_node_live w s d j q e l = go (is_open low high thrown w s d j) e
       where
         go : (b : Bool) → b && stops (node low high s d j) ≡ false → Live (only_if b (step (node low high s d j)) q)
-        go true e = L.live-step _ q l e
+        go true e = L.live_step _ q l e
         go false e = l
 
     leaf_node_over : (w : Bool) (s : Node) (d j : ℕ) (q : St) → passes_at low high thrown stops w s d j ≡ true → Live q → over (leaf_node w s d j q) ≡ true
@@ -213,17 +213,17 @@ module _ {Node St : Type 0} (low high : Node → Node) (thrown : Node → Bool) 
         onward over (half_step_of low high thrown enter step over d (high s)) (walked_up_to (not (thrown (low s))) (low s) d (reach (2 ^ d) o) (enter r))
         ≡ walked_up_to true s (suc d) (reach (2 ^ suc d) (or_else o (shift (2 ^ d) (stop_of (not (thrown (high s))) (high s) d)))) r
     after-low d s r l high_is none h =
-        let on = walked_up_to_live (not (thrown (low s))) (low s) d (enter r) h (L.live-enter r l) in
+        let on = walked_up_to_live (not (thrown (low s))) (low s) d (enter r) h (L.live_enter r l) in
         rw (L.live_on _ on, pow_two d, reach_shift)
-        (high_is _ on ∙ sym (walked_up_to_high L.step-enter s d _ r (reach_le (not (thrown (high s))) (high s) d)))
+        (high_is _ on ∙ sym (walked_up_to_high L.step_enter s d _ r (reach_le (not (thrown (high s))) (high s) d)))
     after-low d s r l high_is (some i) h =
-        rw (walked_up_to_over (not (thrown (low s))) (low s) d i (enter r) h (L.live-enter r l)) (sym (walked_up_to_low L.step-enter s d (suc i) r (omega arith) h.0))
+        rw (walked_up_to_over (not (thrown (low s))) (low s) d i (enter r) h (L.live_enter r l)) (sym (walked_up_to_low L.step_enter s d (suc i) r (omega arith) h.0))
 
     pub walk_is : (d : ℕ) (s : Node) → WalkIs d s
     unfolding walk_of
-    walk_is zero s r l = rw reach_one (L.step-enter s r ∙ sym (walked_up_to_one s r))
+    walk_is zero s r l = rw reach_one (L.step_enter s r ∙ sym (walked_up_to_one s r))
     walk_is (suc d) s r l =
-        rw (half_is d (low s) (walk_is d (low s)) (enter r) (L.live-enter r l), first-low-high low high thrown stops true s d)
+        rw (half_is d (low s) (walk_is d (low s)) (enter r) (L.live_enter r l), first-low-high low high thrown stops true s d)
         (after-low d s r l (half_is d (high s) (walk_is d (high s))) (stop_of (not (thrown (low s))) (low s) d) (stop_is (not (thrown (low s))) (low s) d))
 
 -- ---- how much a walk of d cuts can add to a count: less than 2 ^ (d + 1)

@@ -55,14 +55,14 @@ module _ (rays list : List Float) (reply : Reply) (from : ℕ) (d x : List ℕ) 
   unfolding over rest_of
   is_block small =
       let s = lines_text rays list reply from b.next in
-      let here = sym put.end-behind in
+      let here = sym put.end_behind in
       record {
-        sound = (small, put.none-past);
-        inside = put.end-inside;
+        sound = (small, put.none_past);
+        inside = put.end_inside;
         whole =
             ap (λ (l : List ℕ). take b.end l ++ lines_text rays list reply b.next (line_count reply)) put.all-put
             ∙ ap (λ (l : List ℕ). l ++ lines_text rays list reply b.next (line_count reply)) (take_at s (drop (0 + length s) d) b.end here)
-            ∙ lines_append rays list reply from b.next (line_count reply) put.not_back put.none-past;
+            ∙ lines_append rays list reply from b.next (line_count reply) put.not_back put.none_past;
         kept =
             ap (drop b.end) put.all-put
             ∙ drop_at s (drop (0 + length s) d) b.end here

@@ -104,4 +104,4 @@ module _ (l : List Float) (o2w w2o : Matrix4x4) (reverse : Bool) (r : Ray) where
 
   -- whatever was asked, the count in a hit or a miss is at most 2,047
   pub count_few : (n : ℕ) → met_count (intersect_of l o2w w2o reverse r) ≡ some n → n ≤ 2047
-  count_few n e = ⊎_elim (λ h. absurd (let clash = sym (ap met_count h.refused) ∙ e in let z : ◌≡◌ {A = ℕ} 0 1 = cc in omega arith)) (λ h. h.looked-most n e) intersect_correct
+  count_few n e = ⊎_elim (λ h. absurd (let clash = sym (ap met_count h.refused) ∙ e in let z : ◌≡◌ {A = ℕ} 0 1 = cc in omega arith)) (λ h. h.looked_most n e) intersect_correct

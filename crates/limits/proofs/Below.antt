@@ -1,6 +1,6 @@
 -- Tests over the numbers below n. Assumes nothing.
 use mathlib.Core.Logic.{⊎_elim}
-use mathlib.Core.Bool.{Bool, true, false, ◌&&◌, and_true, and-false, true≢false}
+use mathlib.Core.Bool.{Bool, true, false, ◌&&◌, and-true, and-false, true≢false}
 use mathlib.Core.Path.{◌≡◌, refl, sym, ap, ◌∙◌}
 use Prim.Native.Nat.{ℕ, zero, suc, ◌+◌, ◌<◌}
 use native.Mathlib.Nat.{le_refl, not-suc-le-zero, eq-or-lt_of_le, le_of_suc-le-suc}
@@ -28,7 +28,7 @@ all_found (suc n) P e = go (P n) refl (all_found n P) e
   where
     go : (b : Bool) → P n ≡ b → (all_below n P ≡ false → (k : ℕ) × (k < n) × (P k ≡ false)) → all_below n P && b ≡ false → (k : ℕ) × (k < suc n) × (P k ≡ false)
     go false q h e = (n, le_refl (suc n), q)
-    go true q h e = let z = h (sym (and_true (all_below n P)) ∙ e) in (z.0, omega (arith, z.1), z.2)
+    go true q h e = let z = h (sym (and-true (all_below n P)) ∙ e) in (z.0, omega (arith, z.1), z.2)
 
 pub all-each : (n : ℕ) (P : ℕ → Bool) → ((k : ℕ) → k < n → P k ≡ true) → all_below n P ≡ true
 unfolding all_below

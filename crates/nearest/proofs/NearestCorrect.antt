@@ -144,7 +144,7 @@ module _ (list : List Float) (w2o : Matrix4x4) (r : Ray) (flip : Bool) where
     counted_hit k j l less o e = go (answer k) (answer_says k) (passed k less)
       where
         go : (a : NearestIntersection) → CurveSays (curve k) flip k (framed_at list w2o r k) a → is_refused a ≡ false → (is_hit a ≡ true) × (lt (distance_of l) (distance_in a) ≡ false)
-        go (Hit h m) says p = (refl, rw says.1.distance_is (says.1.none-nearer j l o e))
+        go (Hit h m) says p = (refl, rw says.1.distance_is (says.1.none_nearer j l o e))
         go Miss says p = absurd (true≢false (sym e ∙ says j l o))
         go (Refused number) says p = absurd (true≢false p)
 
@@ -168,7 +168,7 @@ module _ (list : List Float) (w2o : Matrix4x4) (r : Ray) (flip : Bool) where
       earlier_farther k' i' l at (inl before) e =
           let there = counted_hit k' i' l at.0 at.1 e in
           rw (← at-distance) (farther (distance_in (answer k)) (distance_of l) (distance_in (answer k')) (counts-number l e) (chosen.2 k' before there.0) there.1)
-      earlier_farther k' i' l at (inr (same, before)) e = hit.earlier-farther i' l (subst (λ m. OpenLeaf (curve m) (framed_at list w2o r m) i' l) same at.1) before e
+      earlier_farther k' i' l at (inr (same, before)) e = hit.earlier_farther i' l (subst (λ m. OpenLeaf (curve m) (framed_at list w2o r m) i' l) same at.1) before e
 
       nearest_is : NearestIs list w2o r flip h k
       nearest_is = record {

@@ -56,7 +56,7 @@ module _ (c : Curve) (v : View) (s : Subcurve) (d : ℕ) (i : ℕ) (x : Crossing
 
   replied : (ray : Ray) (flip : Bool) → replied_at c ray flip v s d ≡ met.Hit (record_of c ray flip x f) (count_of c v s d)
   unfolding replied_at
-  replied ray flip = let says = decided c v s d ray flip in rw (decides (stop_of c v s d) (last_of c v s d) says.stop_is says.last-is, answers)
+  replied ray flip = let says = decided c v s d ray flip in rw (decides (stop_of c v s d) (last_of c v s d) says.stop_is says.last_is, answers)
 
   -- and it is the nearest
   nearest-leaf : is_nan x.t ≡ false → leaf_by rule.Nearest c v s d ≡ Passes x f

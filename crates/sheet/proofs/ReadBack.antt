@@ -48,7 +48,7 @@ rows_whole l at t i h c q =
     let p = rows-count l at point_key point_floats t.points room_points x.0 i.most-points (ray_no_point l _ t.rays x.2) in
     let y = rows_back l (at + length t.points * row_size point_key point_floats) ray_key ray_floats t.rays [] (rw (append-nil (rows_text ray_key t.rays)) x.2) i.rays (lit< tt) in
     let r = rows-count l (at + length t.points * row_size point_key point_floats) ray_key ray_floats t.rays most_rays y.0 i.most-rays (end_no_row l _ ray_key ray_floats y.2 (lit< tt)) in
-    let s = lt-ltb 0 (length t.points) i.some-point in
+    let s = lt-ltb 0 (length t.points) i.some_point in
     rw (q, p, s, r) (
       refl,
       refl,

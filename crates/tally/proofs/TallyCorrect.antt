@@ -78,8 +78,8 @@ after_list (k ∷ ks) t e l =
     let s = sum-after k t h in
     let rest = after_list ks (after k t) (omega arith) (omega arith) in
     record {
-      rays_are = omega (arith, rest.rays-are);
-      counter_is = λ j. omega (arith, rest.counter-is j, yes_counter j k t h);
+      rays_are = omega (arith, rest.rays_are);
+      counter_is = λ j. omega (arith, rest.counter_is j, yes_counter j k t h);
       sum_is = rest.sum_is;
     }
 
@@ -89,13 +89,13 @@ from-zeros ks l = after_list ks zeros refl (rw zero-add l)
 -- 02's laws
 
 pub rays_are_length : (ks : List Kind) → length ks ≤ most_rays → (tallied ks zeros).rays ≡ length ks
-rays_are_length ks l = omega (arith, (from-zeros ks l).rays-are)
+rays_are_length ks l = omega (arith, (from-zeros ks l).rays_are)
 
 pub counter_is_count : (j : Kind) (ks : List Kind) → length ks ≤ most_rays → counter_of j (tallied ks zeros) ≡ count_of j ks
 unfolding counter_of
-counter_is_count Hit ks l = (from-zeros ks l).counter-is Hit ∙ zero-add _
-counter_is_count Miss ks l = (from-zeros ks l).counter-is Miss ∙ zero-add _
-counter_is_count Refusal ks l = (from-zeros ks l).counter-is Refusal ∙ zero-add _
+counter_is_count Hit ks l = (from-zeros ks l).counter_is Hit ∙ zero-add _
+counter_is_count Miss ks l = (from-zeros ks l).counter_is Miss ∙ zero-add _
+counter_is_count Refusal ks l = (from-zeros ks l).counter_is Refusal ∙ zero-add _
 
 pub rays_are_sum : (ks : List Kind) → length ks ≤ most_rays → (tallied ks zeros).rays ≡ sum_of (tallied ks zeros)
 rays_are_sum ks l = (from-zeros ks l).sum_is

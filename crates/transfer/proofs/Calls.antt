@@ -37,7 +37,7 @@ module _ (n : ℕ) (t : Transfer) {A : Type 0} (k : ℕ) (xs : List A) (got : �
 
   -- what `after_call` asks
   pub asked : n < 2 ^ 64 → Within n t → (t.done + counted (to_z w64 (of_z w64 got)) < 2 ^ 64) × (t.interrupted < most_interruptions)
-  asked small w = rw plain (omega (arith, counted-most (n - t.done) got moved_left, w.done-within), w.not-often)
+  asked small w = rw plain (omega (arith, counted-most (n - t.done) got moved_left, w.done_within), w.not_often)
 
   -- and what it gives
   pub answered : (r : Transfer) (error : ℤ) → r ≡ after_call t (to_z w64 (of_z w64 got)) error → Answered n t r
@@ -69,7 +69,7 @@ module _ (n : ℕ) (t : Transfer) (due : is_due n t ≡ true) where
   more = ltb-true t.done n ((and-eq-true_iff (is_open t.stand) (ltb t.done n)).0 due).1
 
   pub within : Kept n t → Within n t
-  within k = record { done_within = k.done-kept; not_often = k.open_kept is_open_lem }
+  within k = record { done_within = k.done_kept; not_often = k.open_kept is_open_lem }
 
   left_now : calls_left n t ≡ 1 + ((n - t.done) * most_interruptions + (most_interruptions - t.interrupted))
   unfolding calls_left
@@ -82,7 +82,7 @@ module _ (n : ℕ) (t : Transfer) (due : is_due n t ≡ true) where
 
     again : (b : Bool) → ltb (t.interrupted + 1) most_interruptions ≡ b → Brought n t (record { done = t.done; interrupted = t.interrupted + 1; stand = cond b Open Interrupted })
     unfolding calls_left
-    again true h = (record { done_kept = w.done-within; open_kept = λ _. ltb-true _ _ h }, omega (arith, left_now, ltb-true (t.interrupted + 1) most_interruptions h))
+    again true h = (record { done_kept = w.done_within; open_kept = λ _. ltb-true _ _ h }, omega (arith, left_now, ltb-true (t.interrupted + 1) most_interruptions h))
     again false h = stops _ refl refl
 
     failure : (error : ℤ) (b : Bool) → Brought n t (cond b (interrupted_again t.done (t.interrupted + 1)) (stopped_at t.done Failed))
@@ -94,7 +94,7 @@ module _ (n : ℕ) (t : Transfer) (due : is_due n t ≡ true) where
     unfolding after_call after_failure calls_left
     brought_by (negsuc k) error m = failure error (is_interruption error)
     brought_by (pos zero) error m = stops _ refl refl
-    brought_by (pos (suc k)) error m = (record { done_kept = omega (arith, more); open_kept = λ _. omega arith }, omega (arith, left_now, more, w.not-often))
+    brought_by (pos (suc k)) error m = (record { done_kept = omega (arith, more); open_kept = λ _. omega arith }, omega (arith, left_now, more, w.not_often))
 
   pub brought : (r : Transfer) → Kept n t → Answered n t r → Brought n t r
   brought r k a = rw a.behind (brought_by (within k) a.got a.error a.moved)
@@ -109,7 +109,7 @@ kept n r (behind_call {t} before due call) = (brought n t due r (kept n t before
 pub all_moved : (n : ℕ) (t : Transfer) → Ended n t → is_open t.stand ≡ true → t.done ≡ n
 all_moved n t (reached, undue) well =
     let none_left : ltb t.done n ≡ false = rw well at undue in
-    omega (arith, ltb-false t.done n none_left, (kept n t reached).done-kept)
+    omega (arith, ltb-false t.done n none_left, (kept n t reached).done_kept)
 
 pub at_most : (n : ℕ) (t : Transfer) → Ended n t → t.done ≤ n
-at_most n t ended = (kept n t ended.0).done-kept
+at_most n t ended = (kept n t ended.0).done_kept

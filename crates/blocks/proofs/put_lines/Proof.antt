@@ -43,7 +43,7 @@ module _ (rays list : List Float) (reply : Reply) (from : ℕ) (d : List ℕ) wh
       let short = line_most rays list reply next small more in
       let all : take (length x - end) t ≡ t = take_all (length x - end) t (omega arith) in
       let behind = lines_next rays list reply from next held.not_back in
-      let here : 0 + length s ≡ end = zero-add (length s) ∙ sym held.end-behind in
+      let here : 0 + length s ≡ end = zero-add (length s) ∙ sym held.end_behind in
       let end_is : end' ≡ end + length t = put.place ∙ ap (λ (l : List ℕ). end + length l) all in
       record {
         not_back = omega (arith, held.not_back);
@@ -53,10 +53,10 @@ module _ (rays list : List Float) (reply : Reply) (from : ℕ) (d : List ℕ) wh
             ∙ ap (over x end) all
             ∙ ap (λ (l : List ℕ). over l end t) held.all-put
             ∙ ap (λ (k : ℕ). over (over d 0 s) k t) (sym here)
-            ∙ over-append d 0 s t (omega (arith, held.end-inside))
+            ∙ over-append d 0 s t (omega (arith, held.end_inside))
             ∙ ap (over d 0) behind;
-        end_behind = end_is ∙ ap (λ (k : ℕ). k + length t) held.end-behind ∙ sym (length-append s t) ∙ ap length behind;
-        end_inside = omega (arith, held.end-inside);
+        end_behind = end_is ∙ ap (λ (k : ℕ). k + length t) held.end_behind ∙ sym (length-append s t) ∙ ap length behind;
+        end_inside = omega (arith, held.end_inside);
       }
 
   -- where nothing was put there was no line or no room
@@ -64,7 +64,7 @@ module _ (rays list : List Float) (reply : Reply) (from : ℕ) (d : List ℕ) wh
       → from < line_count reply → longest ≤ length d → from < next
   moved x next end held long test more room = elim (eq-or-lt_of_le held.not_back) [
     | inl e ↦
-        let start : end ≡ 0 = held.end-behind ∙ ap (λ (k : ℕ). length (lines_text rays list reply from k)) (sym e) ∙ ap length (no_lines rays list reply from) in
+        let start : end ≡ 0 = held.end_behind ∙ ap (λ (k : ℕ). length (lines_text rays list reply from k)) (sym e) ∙ ap length (no_lines rays list reply from) in
         absurd (true≢false (sym (ap₂ ◌&&◌ (lt-ltb next (line_count reply) (omega arith)) (le-leb longest (length x - end) (omega arith))) ∙ test))
     | inr l ↦ l
   ]
@@ -76,7 +76,7 @@ loop-holds : tie.Need-loop-init invariant-loop decreases-loop
 loop-holds c = let s = c.before.before in (c.line-count.ensures, refl, no_block _ _ _ _ _ s.requires.1)
 
 sub-loop : tie.Need-overflow-sub-loop invariant-loop decreases-loop
-sub-loop c = let i = c.loop.invariant in omega (arith, i.1, i.2.end-inside)
+sub-loop c = let i = c.loop.invariant in omega (arith, i.1, i.2.end_inside)
 
 -- what the test says
 tested : (next count n k : ℕ) → count ≡ n → (ltb next count && leb longest k) ≡ true → (next < n) × (longest ≤ k)

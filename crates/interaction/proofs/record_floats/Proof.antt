@@ -8,5 +8,5 @@ returns : tie.Need-returns
 unfolding record_floats
 returns c = refl
 
-pub record-floats-spec : {M : Type 1} → statement M
-record-floats-spec = tie.close (tie.spec returns)
+pub record_floats_spec : {M : Type 1} → statement M
+record_floats_spec = tie.close (tie.spec returns)

@@ -7,10 +7,10 @@ use Rattle.interaction.proofs.record_from.Tie as tie
 returns : tie.Need-returns
 unfolding record_from
 returns c =
-    rw (c.vector-from5.ensures, c.before.vector-from4.ensures, c.before.before.from.ensures, c.before.before.before.vector-from3.ensures, c.before.before.before.before.vector-from2.ensures, c.before.before.before.before.before.before.vector-from.ensures, c.before.before.before.before.before.before.before.point-from.ensures)
+    rw (c.vector_from-5.ensures, c.before.vector_from-4.ensures, c.before.before.from.ensures, c.before.before.before.vector_from-3.ensures, c.before.before.before.before.vector_from-2.ensures, c.before.before.before.before.before.before.vector_from.ensures, c.before.before.before.before.before.before.before.point_from.ensures)
 
-pub record-from-spec : {M : Type 1} → statement M
-record-from-spec =
+pub record_from_spec : {M : Type 1} → statement M
+record_from_spec =
     tie.close
     (tie.spec (λ c. search rules) (λ c. search rules) (λ c. search rules) (λ c κs. search rules) (λ c κs. search rules) (λ c. search rules)
     (λ c κs. search rules) (λ c κs. search rules) (λ c κs. search rules) (λ c κs. search rules) (λ c κs. search rules) returns)

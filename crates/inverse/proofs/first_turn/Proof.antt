@@ -16,7 +16,7 @@ few l e = subst (λ (k : List ℕ). AtMost 3 k) (sym e) (relaxed (omega arith) n
 mark-requires : tie.Need-mark-requires
 mark-requires c κs =
     let f = c.before in
-    (f.find_first.ensures.1.col-in, few _ f.before.before.requires)
+    (f.find_first.ensures.1.col_in, few _ f.before.before.requires)
 
 returns : tie.Need-returns
 unfolding turned

@@ -28,29 +28,29 @@ first-turn-requires c κs = refl
 turn-requires : tie.Need-turn-requires
 turn-requires c κs =
     let t = c.before.before.first-turn in
-    relaxed (omega arith) (after_turn 0 _ _ _ t.ensures.1.1 t.ensures.0.1.col-in none)
+    relaxed (omega arith) (after_turn 0 _ _ _ t.ensures.1.1 t.ensures.0.1.col_in none)
 
 turn-requires-2 : tie.Need-turn-requires-2
 turn-requires-2 c κs =
     let c1 = c.before.before in
     let t = c1.before.before.before.first-turn in
-    relaxed (omega arith) (after_turn 1 _ _ _ c1.turn.ensures.1.1 c1.turn.ensures.0.1.col-in
-    (after_turn 0 _ _ _ t.ensures.1.1 t.ensures.0.1.col-in none))
+    relaxed (omega arith) (after_turn 1 _ _ _ c1.turn.ensures.1.1 c1.turn.ensures.0.1.col_in
+    (after_turn 0 _ _ _ t.ensures.1.1 t.ensures.0.1.col_in none))
 
 turn-requires-3 : tie.Need-turn-requires-3
 turn-requires-3 c κs =
     let c2 = c.before.before in
     let c1 = c2.before.before.before in
     let t = c1.before.before.before.first-turn in
-    after_turn 2 _ _ _ c2.turn2.ensures.1.1 c2.turn2.ensures.0.1.col-in
-    (after_turn 1 _ _ _ c1.turn.ensures.1.1 c1.turn.ensures.0.1.col-in
-    (after_turn 0 _ _ _ t.ensures.1.1 t.ensures.0.1.col-in none))
+    after_turn 2 _ _ _ c2.turn2.ensures.1.1 c2.turn2.ensures.0.1.col_in
+    (after_turn 1 _ _ _ c1.turn.ensures.1.1 c1.turn.ensures.0.1.col_in
+    (after_turn 0 _ _ _ t.ensures.1.1 t.ensures.0.1.col_in none))
 
 swap-columns-requires-4 : tie.Need-swap-columns-requires-4
 swap-columns-requires-4 c κs =
     let c4 = c.before.before.before.before.before.before.before in
     let t = c4.before.before.before.before.before.before.before.before.before.first-turn in
-    (t.ensures.0.1.row_in, t.ensures.0.1.col-in)
+    (t.ensures.0.1.row_in, t.ensures.0.1.col_in)
 
 returns : tie.Need-returns
 returns c =

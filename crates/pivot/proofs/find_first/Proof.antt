@@ -10,11 +10,11 @@ returns c =
     let c3 = c.before in
     let c2 = c3.before in
     let c1 = c2.before in (
-      rw (c.look-along-first4.ensures.0, c3.look-along-first3.ensures.0, c2.look-along-first2.ensures.0, c1.look-along-first.ensures.0),
-      c.look-along-first4.ensures.1,
+      rw (c.look_along_first.ensures.0, c3.look_along_first-p2.ensures.0, c2.look_along_first-p1.ensures.0, c1.look_along_first-p0.ensures.0),
+      c.look_along_first.ensures.1,
     )
 
-pub find-first-spec : {M : Type 1} → statement M
-find-first-spec =
+pub find_first_spec : {M : Type 1} → statement M
+find_first_spec =
     tie.close
     (tie.spec (λ c κs. search rules) (λ c κs. search rules) (λ c κs. search rules) (λ c κs. search rules) returns)

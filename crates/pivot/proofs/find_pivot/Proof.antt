@@ -10,9 +10,9 @@ returns c =
     let c3 = c.before in
     let c2 = c3.before in
     let c1 = c2.before in
-    (rw (c.look-row4.ensures.0, c3.look-row3.ensures.0, c2.look-row2.ensures.0, c1.look-row.ensures.0), c.look-row4.ensures.1)
+    (rw (c.look_row.ensures.0, c3.look_row-p2.ensures.0, c2.look_row-p1.ensures.0, c1.look_row-p0.ensures.0), c.look_row.ensures.1)
 
-pub find-pivot-spec : {M : Type 1} → statement M
-find-pivot-spec =
+pub find_pivot_spec : {M : Type 1} → statement M
+find_pivot_spec =
     tie.close
     (tie.spec (λ c κs. search rules) (λ c κs. search rules) (λ c κs. search rules) (λ c κs. search rules) returns)

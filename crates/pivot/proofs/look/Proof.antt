@@ -20,17 +20,17 @@ under-nan (fin s m e) = refl
 passed-by : (b x : Float) → ne x x ≡ true → le b (abs_of x) ≡ false
 passed-by b x h = ap (λ (y : Float). le b (abs_of y)) (differs_from_itself x (subst T (sym h) tt)) ∙ under-nan b
 
-returns : tie.Need-returns
+returns : tie.Need-returns-then-x
 unfolding look_entry
-returns c = let a = c.before.args in (simp (passed-by a.best.big a.x c.if1.true), search rules)
+returns c = let a = c.before.args in (simp (passed-by a.best.big a.x c.if-x.true), search rules)
 
-returns-2 : tie.Need-returns-2
+returns-2 : tie.Need-returns-then-a-best
 unfolding look_entry
-returns-2 c = (unfold le in simp (← c.before.before.abs.ensures, c.if2.true), search rules)
+returns-2 c = (unfold le in simp (← c.before.before.abs-a.ensures, c.if-a-best.true), search rules)
 
-returns-3 : tie.Need-returns-3
+returns-3 : tie.Need-returns
 unfolding look_entry
-returns-3 c = (simp (← c.before.before.abs.ensures, c.if2.false), search rules)
+returns-3 c = (simp (← c.before.before.abs-a.ensures, c.if-a-best.false), search rules)
 
 pub look_spec : {M : Type 1} → statement M
 look_spec =

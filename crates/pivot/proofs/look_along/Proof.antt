@@ -11,10 +11,10 @@ returns c =
     let c3 = c.before.before.before in
     let c2 = c3.before.before.before in
     let c1 = c2.before.before.before in
-    (simp (c.look-marked4.ensures.0, c3.look-marked3.ensures.0, c2.look-marked2.ensures.0, c1.look-marked.ensures.0), c.look-marked4.ensures.1)
+    (simp (c.look_marked.ensures.0, c3.look_marked-p2.ensures.0, c2.look_marked-p1.ensures.0, c1.look_marked-p0.ensures.0), c.look_marked.ensures.1)
 
-pub look-along-spec : {M : Type 1} → statement M
-look-along-spec =
+pub look_along_spec : {M : Type 1} → statement M
+look_along_spec =
     tie.close
     (tie.spec (λ c. omega arith) (λ c. omega arith) (λ c. omega arith) (λ c. omega arith) (λ c κs. search rules)
     (λ c. omega arith) (λ c. omega arith) (λ c. omega arith) (λ c. omega arith) (λ c κs. search rules)

@@ -11,10 +11,10 @@ returns c =
     let c3 = c.before.before in
     let c2 = c3.before.before in
     let c1 = c2.before.before in
-    (simp (c.look4.ensures.0, c3.look3.ensures.0, c2.look2.ensures.0, c1.look.ensures.0), c.look4.ensures.1)
+    (simp (c.look.ensures.0, c3.look-p2.ensures.0, c2.look-p1.ensures.0, c1.look-p0.ensures.0), c.look.ensures.1)
 
-pub look-along-first-spec : {M : Type 1} → statement M
-look-along-first-spec =
+pub look_along_first_spec : {M : Type 1} → statement M
+look_along_first_spec =
     tie.close
     (tie.spec (λ c. omega arith) (λ c. omega arith) (λ c. omega arith) (λ c κs. search rules)
     (λ c. omega arith) (λ c. omega arith) (λ c. omega arith) (λ c κs. search rules)
