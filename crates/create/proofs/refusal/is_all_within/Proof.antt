@@ -34,12 +34,12 @@ returns : tie.Need-returns invariant-loop decreases-loop
 unfolding all_within
 returns c =
     let t = c.before.before.before in
-    sym (all_fails _ (P t.before.before.before.args.points.now) _ t.loop-test.true (sym c.before.is_Within.ensures ∙ not-true _ c.if1.true))
+    sym (all_fails _ (P t.before.before.before.args.points.now) _ t.loop-test.true (sym c.before.is_within.ensures ∙ not-true _ c.if1.true))
 
 loop-again : tie.Need-loop-preserved invariant-loop decreases-loop
 loop-again c =
     let t = c.before.before.before in
-    (omega arith, all_next (P t.before.before.before.args.points.now) _ t.before.loop.invariant.1 (sym c.before.is_Within.ensures ∙ not-false _ c.if1.false))
+    (omega arith, all_next (P t.before.before.before.args.points.now) _ t.before.loop.invariant.1 (sym c.before.is_within.ensures ∙ not-false _ c.if1.false))
 
 returns-2 : tie.Need-returns-2 invariant-loop decreases-loop
 unfolding all_within
