@@ -82,7 +82,7 @@ module _ (t : tie.In-loop-j invariant-loop decreases-loop) where
 
   near : l.loop-j.from ≤ far
   unfolding row_size
-  near = omega (arith, reach l.loop-j.j s.args.most _ (length (row_key k)) (row_floats k) s.args.at _ refl (row_small k).1 (row_small k).0 s.requires.2 t.loop-j-test.true s.requires.1 l.loop-j.inv.1)
+  near = omega (arith, reach l.loop-j.j s.args.most _ (length (row_key k)) (row_floats k) s.args.at _ refl (row_small k).1 (row_small k).0 s.requires.2 t.loop-j-test.true s.requires.1 l.loop-j.invariant.1)
 
   fits : l.loop-j.j * row_floats k + row_floats k ≤ length s.args.out.now
   fits = omega (arith, next_in l.loop-j.j s.args.most (row_floats k) t.loop-j-test.true, s.requires.3)
@@ -117,14 +117,14 @@ put-floats-requires : tie.Need-put_floats-requires invariant-loop decreases-loop
 put-floats-requires c κs =
     let e = c.before.before.before in
     let same = ap (λ (n : ℕ). (l (t e)).loop-j.j * n) (told e).0 in
-    (omega (arith, told e, near (t e), row_small (k (t e))), omega (arith, (told e).0, (row_small (k (t e))).0), omega (arith, same, (told e).0, fits (t e), (l (t e)).loop-j.inv.4))
+    (omega (arith, told e, near (t e), row_small (k (t e))), omega (arith, (told e).0, (row_small (k (t e))).0), omega (arith, same, (told e).0, fits (t e), (l (t e)).loop-j.invariant.4))
 
 loop-again : tie.Need-loop-j-preserved invariant-loop decreases-loop
 unfolding row_size
 loop-again c =
     let called = c.before.before in
     let e = called.before.before.before.before in
-    let i = (l (t e)).loop-j.inv in
+    let i = (l (t e)).loop-j.invariant in
     let j = (l (t e)).loop-j.j in
     let n = row_floats (k (t e)) in
     let f = F (s (t e)).args.s.now (k (t e)) (s (t e)).args.at in
