@@ -97,7 +97,7 @@ module _ (e : tie.Else-not-row invariant-loop decreases-loop) where
   -- the row is right
   told : (row.value ≡ row_floats (k t)) × (row.at ≡ (l t).loop-j.from + (length (row_key (k t)) + row_floats (k t) * float_size))
   unfolding row_size
-  told = (row_taken _ (k t) (l t).loop-j.from row (s t).requires.0 e.before.before.read_line-row.ensures).1 (e.if-not-row.false)
+  told = (row_taken _ (k t) (l t).loop-j.from row (s t).requires.0 e.before.before.read_line-row.ensures).1 (not-false _ e.if-not-row.false)
 
 read-line-requires : tie.Need-read_line-row-requires invariant-loop decreases-loop
 read-line-requires c κs = near c
@@ -131,7 +131,7 @@ loop-again c =
     let written = row_put_lem _ (s (t e)).args.out.now _ _ (k (t e)) (s (t e)).args.at j _ (row e) i.1 (told e).0 (told e).1 i.3 called.put_floats.ensures (fits (t e)) in (
       omega (arith, (t e).loop-j-test.true),
       behind (s (t e)).args.at j _ (l (t e)).loop-j.from (row e).at i.1 (told e).1,
-      all_next (P (s (t e)).args.s.now (k (t e)) (s (t e)).args.at) j i.2 (row_told _ (k (t e)) _ j _ (row e) true (s (t e)).requires.0 i.1 e.before.before.read_line-row.ensures (e.if-not-row.false)),
+      all_next (P (s (t e)).args.s.now (k (t e)) (s (t e)).args.at) j i.2 (row_told _ (k (t e)) _ j _ (row e) true (s (t e)).requires.0 i.1 e.before.before.read_line-row.ensures (not-false _ e.if-not-row.false)),
       written,
       ap length written ∙ over-length (s (t e)).args.out.now 0 f n (j + 1) (λ m. length-floats _ _ n) (omega (arith, next_in j (s (t e)).args.most n (t e).loop-j-test.true, (s (t e)).requires.3)),
     )
@@ -142,7 +142,7 @@ returns c =
     let called = c.before.before in
     let t = called.before in
     let i = (l t).loop-j.invariant in
-    let wrong = row_told _ (k t) _ (l t).loop-j.j _ called.read_line-row.result false (s t).requires.0 i.1 called.read_line-row.ensures (c.if-not-row.true) in
+    let wrong = row_told _ (k t) _ (l t).loop-j.j _ called.read_line-row.result false (s t).requires.0 i.1 called.read_line-row.ensures (not-true _ c.if-not-row.true) in
     (sym (run_is (s t).args.most (P (s t).args.s.now (k t) (s t).args.at) (l t).loop-j.j i.0 i.2 (λ _. wrong)), i.3)
 
 returns-2 : tie.Need-returns invariant-loop decreases-loop
