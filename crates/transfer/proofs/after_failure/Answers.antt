@@ -8,7 +8,7 @@ use Rattle.transfer.proofs.after_failure.Goals as goal
 
 pub returns-then-error-ne-EINTR : goal.returns-then-error-ne-EINTR
 unfolding after_failure interrupted_again
-returns-then-error-ne-EINTR c = rw (to_z-of_z w32 _ c.ranges.error, no_interruption c.args.error c.if-error-ne-EINTR.true)
+returns-then-error-ne-EINTR c = rw (no_interruption c.args.error c.if-error-ne-EINTR.true) (cc (to_z-of_z w32 _ c.ranges.error))
 
 pub returns-then-interrupted-lt-MOST_INTERRUPTIONS :
     goal.returns-then-interrupted-lt-MOST_INTERRUPTIONS
