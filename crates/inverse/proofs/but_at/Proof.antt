@@ -4,13 +4,13 @@ use Rattle.inverse.specs.Inverse.{but_at}
 use Rattle.inverse.proofs.but_at.Statement.{statement}
 use Rattle.inverse.proofs.but_at.Tie as tie
 
-returns : tie.Need-returns
+returns : tie.Need-returns-then-k-c
 unfolding but_at
-returns c = simp (eq-eqb _ _ c.if1.true)
+returns c = simp (eq-eqb _ _ c.if-k-c.true)
 
-returns-2 : tie.Need-returns-2
+returns-2 : tie.Need-returns-else-k-c
 unfolding but_at
-returns-2 c = simp (ne_eqb _ _ c.if1.false)
+returns-2 c = simp (ne_eqb _ _ c.if-k-c.false)
 
-pub but-at-spec : {M : Type 1} → statement M
-but-at-spec = tie.close (tie.spec returns returns-2)
+pub but_at_spec : {M : Type 1} → statement M
+but_at_spec = tie.close (tie.spec returns returns-2)

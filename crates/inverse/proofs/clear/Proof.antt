@@ -13,7 +13,7 @@ returns c =
     let b1 = b2.before.before in
     let b0 = b1.before.before in
     let p = b0.before.before.before.requires in
-    rw (b3.but-at4.ensures, b2.but-at3.ensures, b1.but-at2.ensures, b0.but-at.ensures) (without _ _ _ p.0 p.2)
+    rw (b3.but_at-x3.ensures, b2.but_at-x2.ensures, b1.but_at-x1.ensures, b0.but_at-x0.ensures) (without _ _ _ p.0 p.2)
 
 pub clear_spec : {M : Type 1} → statement M
 clear_spec =

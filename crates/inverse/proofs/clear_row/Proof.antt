@@ -5,15 +5,15 @@ use Rattle.inverse.specs.Inverse.{clear_row}
 use Rattle.inverse.proofs.clear_row.Statement.{statement}
 use Rattle.inverse.proofs.clear_row.Tie as tie
 
-returns : tie.Need-returns
+returns : tie.Need-returns-then-j-c
 unfolding clear_row
-returns c = simp (eq-eqb _ _ c.if1.true)
+returns c = simp (eq-eqb _ _ c.if-j-c.true)
 
-returns-2 : tie.Need-returns-2
+returns-2 : tie.Need-returns
 unfolding clear_row
-returns-2 c = simp (ne_eqb _ _ c.before.before.if1.false) c.clear.ensures
+returns-2 c = simp (ne_eqb _ _ c.before.before.if-j-c.false) c.clear.ensures
 
-pub clear-row-spec : {M : Type 1} → statement M
-clear-row-spec =
+pub clear_row_spec : {M : Type 1} → statement M
+clear_row_spec =
     tie.close
-    (tie.spec returns (λ c κs. search (rules, c.before.if1.false)) returns-2)
+    (tie.spec returns (λ c κs. search (rules, c.before.if-j-c.false)) returns-2)

@@ -10,9 +10,9 @@ returns c =
     let c3 = c.before.before in
     let c2 = c3.before.before in
     let c1 = c2.before.before in
-    rw (c.clear-row4.ensures, c3.clear-row3.ensures, c2.clear-row2.ensures, c1.clear-row.ensures)
+    rw (c.clear_row-4.ensures, c3.clear_row-3.ensures, c2.clear_row-2.ensures, c1.clear_row.ensures)
 
-pub eliminate-spec : {M : Type 1} → statement M
-eliminate-spec =
+pub eliminate_spec : {M : Type 1} → statement M
+eliminate_spec =
     tie.close
     (tie.spec (λ c κs. search rules) (λ c κs. search rules) (λ c κs. search rules) (λ c κs. search rules) returns)

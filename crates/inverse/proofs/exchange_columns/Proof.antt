@@ -11,10 +11,10 @@ returns c =
     let c3 = c.before.before in
     let c2 = c3.before.before in
     let c1 = c2.before.before in
-    rw (c.swap-at4.ensures, c3.swap-at3.ensures, c2.swap-at2.ensures, c1.swap_at.ensures)
+    rw (c.swap_at-4.ensures, c3.swap_at-3.ensures, c2.swap_at-2.ensures, c1.swap_at.ensures)
 
-pub exchange-columns-spec : {M : Type 1} → statement M
-exchange-columns-spec =
+pub exchange_columns_spec : {M : Type 1} → statement M
+exchange_columns_spec =
     tie.close
     (tie.spec (λ c κs. search rules) (λ c. omega arith) (λ c. omega arith) (λ c κs. search rules) (λ c. omega arith)
     (λ c. omega arith) (λ c κs. search rules) (λ c. omega arith) (λ c. omega arith) (λ c κs. search rules) returns)

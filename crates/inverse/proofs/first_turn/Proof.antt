@@ -16,16 +16,16 @@ few l e = subst (λ (k : List ℕ). AtMost 3 k) (sym e) (relaxed (omega arith) n
 mark-requires : tie.Need-mark-requires
 mark-requires c κs =
     let f = c.before in
-    (f.find_first.ensures.1.col_in, few _ f.before.before.requires)
+    (f.find_first-p.ensures.1.col_in, few _ f.before.requires)
 
 returns : tie.Need-returns
 unfolding turned
 returns c =
     let b = c.before.before in
     let f = b.before.before in
-    ((rw f.before.before.requires f.find_first.ensures.0, f.find_first.ensures.1), (c.turn-about.ensures, b.mark.ensures))
+    ((rw f.before.requires f.find_first-p.ensures.0, f.find_first-p.ensures.1), (c.turn_about.ensures, b.mark.ensures))
 
-pub first-turn-spec : {M : Type 1} → statement M
-first-turn-spec =
+pub first_turn_spec : {M : Type 1} → statement M
+first_turn_spec =
     tie.close
     (tie.spec (λ c κs. search rules) mark-requires (λ c κs. search rules) returns)

@@ -22,34 +22,34 @@ joined : (m m1 m2 m3 m4 s3 s2 s1 s0 : Matrix) (p0 p1 p2 p3 : Pivot) (i1 i2 i3 : 
 unfolding inverse_flat
 joined m m1 m2 m3 m4 s3 s2 s1 s0 p0 p1 p2 p3 i1 i2 i3 a0 b0 d0 a1 b1 d1 a2 b2 d2 a3 b3 e3 e2 e1 e0 = cc
 
-first-turn-requires : tie.Need-first-turn-requires
+first-turn-requires : tie.Need-first_turn-p0-requires
 first-turn-requires c κs = refl
 
-turn-requires : tie.Need-turn-requires
+turn-requires : tie.Need-turn-p1-requires
 turn-requires c κs =
-    let t = c.before.before.first-turn in
+    let t = c.before.before.first_turn-p0 in
     relaxed (omega arith) (after_turn 0 _ _ _ t.ensures.1.1 t.ensures.0.1.col_in none)
 
-turn-requires-2 : tie.Need-turn-requires-2
+turn-requires-2 : tie.Need-turn-p2-requires
 turn-requires-2 c κs =
     let c1 = c.before.before in
-    let t = c1.before.before.before.first-turn in
-    relaxed (omega arith) (after_turn 1 _ _ _ c1.turn.ensures.1.1 c1.turn.ensures.0.1.col_in
+    let t = c1.before.before.before.first_turn-p0 in
+    relaxed (omega arith) (after_turn 1 _ _ _ c1.turn-p1.ensures.1.1 c1.turn-p1.ensures.0.1.col_in
     (after_turn 0 _ _ _ t.ensures.1.1 t.ensures.0.1.col_in none))
 
-turn-requires-3 : tie.Need-turn-requires-3
+turn-requires-3 : tie.Need-turn-p3-requires
 turn-requires-3 c κs =
     let c2 = c.before.before in
     let c1 = c2.before.before.before in
-    let t = c1.before.before.before.first-turn in
-    after_turn 2 _ _ _ c2.turn2.ensures.1.1 c2.turn2.ensures.0.1.col_in
-    (after_turn 1 _ _ _ c1.turn.ensures.1.1 c1.turn.ensures.0.1.col_in
+    let t = c1.before.before.before.first_turn-p0 in
+    after_turn 2 _ _ _ c2.turn-p2.ensures.1.1 c2.turn-p2.ensures.0.1.col_in
+    (after_turn 1 _ _ _ c1.turn-p1.ensures.1.1 c1.turn-p1.ensures.0.1.col_in
     (after_turn 0 _ _ _ t.ensures.1.1 t.ensures.0.1.col_in none))
 
-swap-columns-requires-4 : tie.Need-swap-columns-requires-4
+swap-columns-requires-4 : tie.Need-swap_columns-requires-4
 swap-columns-requires-4 c κs =
     let c4 = c.before.before.before.before.before.before.before in
-    let t = c4.before.before.before.before.before.before.before.before.before.first-turn in
+    let t = c4.before.before.before.before.before.before.before.before.before.first_turn-p0 in
     (t.ensures.0.1.row_in, t.ensures.0.1.col_in)
 
 returns : tie.Need-returns
@@ -62,14 +62,14 @@ returns c =
     let t1 = t2.before.before.before in
     let t0 = t1.before.before.before in
     joined _ _ _ _ _ _ _ _ _ _ _ _ _ _ _ _
-    t0.first-turn.ensures.0.0 t0.first-turn.ensures.1.0 t0.first-turn.ensures.1.1
-    t1.turn.ensures.0.0 t1.turn.ensures.1.0 t1.turn.ensures.1.1
-    t2.turn2.ensures.0.0 t2.turn2.ensures.1.0 t2.turn2.ensures.1.1
-    t3.turn3.ensures.0.0 t3.turn3.ensures.1.0
-    s0.swap-columns.ensures s1.swap-columns2.ensures s2.swap-columns3.ensures c.swap-columns4.ensures
+    t0.first_turn-p0.ensures.0.0 t0.first_turn-p0.ensures.1.0 t0.first_turn-p0.ensures.1.1
+    t1.turn-p1.ensures.0.0 t1.turn-p1.ensures.1.0 t1.turn-p1.ensures.1.1
+    t2.turn-p2.ensures.0.0 t2.turn-p2.ensures.1.0 t2.turn-p2.ensures.1.1
+    t3.turn-p3.ensures.0.0 t3.turn-p3.ensures.1.0
+    s0.swap_columns.ensures s1.swap_columns-2.ensures s2.swap_columns-3.ensures c.swap_columns-4.ensures
 
-pub invert-spec : {M : Type 1} → statement M
-invert-spec =
+pub invert_spec : {M : Type 1} → statement M
+invert_spec =
     tie.close
     (tie.spec first-turn-requires (λ c. search rules) (λ c. search rules)
     turn-requires (λ c. search rules) (λ c. search rules)

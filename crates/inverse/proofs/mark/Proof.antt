@@ -6,8 +6,8 @@ use Rattle.inverse.specs.Inverse.{column_taken}
 use Rattle.inverse.proofs.mark.Statement.{statement}
 use Rattle.inverse.proofs.mark.Tie as tie
 
-add-ipiv : tie.Need-overflow-add-ipiv
-add-ipiv c = omega (arith, c.before.requires.1.each c.before.args.c c.before.requires.0)
+add-ipiv : tie.Need-overflow_add-ipiv
+add-ipiv c = omega (arith, c.before.before.requires.1.each c.before.before.args.c c.before.before.requires.0)
 
 returns : tie.Need-returns
 unfolding column_taken

@@ -11,10 +11,10 @@ returns c =
     let b2 = c.before.before in
     let b1 = b2.before.before in
     let b0 = b1.before.before in
-    rw (c.but-at4.ensures, b2.but-at3.ensures, b1.but-at2.ensures, b0.but-at.ensures) (scaled _ _ b0.before.before.before.requires)
+    rw (c.but_at-x3.ensures, b2.but_at-x2.ensures, b1.but_at-x1.ensures, b0.but_at-x0.ensures) (scaled _ _ b0.before.before.before.requires)
 
-pub scale-row-spec : {M : Type 1} → statement M
-scale-row-spec =
+pub scale_row_spec : {M : Type 1} → statement M
+scale_row_spec =
     tie.close
     (tie.spec (λ c. omega arith) (λ c. omega arith) (λ c. omega arith) (λ c. omega arith) (λ c. omega arith)
     (λ c. omega arith) (λ c κs. tt) (λ c. omega arith) (λ c. omega arith) (λ c. omega arith)

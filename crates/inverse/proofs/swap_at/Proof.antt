@@ -9,8 +9,8 @@ returns : tie.Need-returns
 unfolding swap_at
 returns c = refl
 
-pub swap-at-spec : {M : Type 1} → statement M
-swap-at-spec =
+pub swap_at_spec : {M : Type 1} → statement M
+swap_at_spec =
     tie.close
     (tie.spec (λ c. search rules) (λ c. search rules) (λ c. search rules) (λ c. search rules) (λ c. search rules)
     (λ c. search rules) (λ c. search rules) (λ c. search rules) returns)

@@ -5,15 +5,15 @@ use Rattle.inverse.specs.Inverse.{swap_rows}
 use Rattle.inverse.proofs.swap_rows.Statement.{statement}
 use Rattle.inverse.proofs.swap_rows.Tie as tie
 
-returns : tie.Need-returns
+returns : tie.Need-returns-then-i-j
 unfolding swap_rows
-returns c = simp (eq-eqb _ _ c.if1.true)
+returns c = simp (eq-eqb _ _ c.if-i-j.true)
 
-returns-2 : tie.Need-returns-2
+returns-2 : tie.Need-returns
 unfolding swap_rows
-returns-2 c = simp (ne_eqb _ _ c.before.before.if1.false) c.exchange-rows.ensures
+returns-2 c = simp (ne_eqb _ _ c.before.before.if-i-j.false) c.exchange_rows.ensures
 
-pub swap-rows-spec : {M : Type 1} → statement M
-swap-rows-spec =
+pub swap_rows_spec : {M : Type 1} → statement M
+swap_rows_spec =
     tie.close
     (tie.spec returns (λ c κs. search rules) returns-2)

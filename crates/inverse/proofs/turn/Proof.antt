@@ -8,7 +8,7 @@ returns : tie.Need-returns
 unfolding turned
 returns c =
     let b = c.before.before in
-    (b.before.before.find-pivot.ensures, (c.turn-about.ensures, b.mark.ensures))
+    (b.before.before.find_pivot-p.ensures, (c.turn_about.ensures, b.mark.ensures))
 
 pub turn_spec : {M : Type 1} → statement M
 turn_spec =

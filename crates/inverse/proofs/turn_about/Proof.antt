@@ -4,9 +4,9 @@ use Rattle.inverse.proofs.turn_about.Statement.{statement}
 use Rattle.inverse.proofs.turn_about.Tie as tie
 
 returns : tie.Need-returns
-returns c = rw (c.reduce-by-column.ensures, c.before.before.swap-rows.ensures)
+returns c = rw (c.reduce_by_column.ensures, c.before.before.swap_rows.ensures)
 
-pub turn-about-spec : {M : Type 1} → statement M
-turn-about-spec =
+pub turn_about_spec : {M : Type 1} → statement M
+turn_about_spec =
     tie.close
     (tie.spec (λ c κs. search rules) (λ c κs. search rules) returns)

@@ -8,5 +8,5 @@ returns : tie.Need-returns
 unfolding average_at2
 returns c = refl
 
-pub average2-spec : {M : Type 1} → statement M
-average2-spec = tie.close (tie.spec returns)
+pub average2_spec : {M : Type 1} → statement M
+average2_spec = tie.close (tie.spec returns)

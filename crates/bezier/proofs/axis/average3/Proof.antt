@@ -8,5 +8,5 @@ returns : tie.Need-returns
 unfolding average_at3
 returns c = refl
 
-pub average3-spec : {M : Type 1} → statement M
-average3-spec = tie.close (tie.spec returns)
+pub average3_spec : {M : Type 1} → statement M
+average3_spec = tie.close (tie.spec returns)

@@ -8,5 +8,5 @@ returns : tie.Need-returns
 unfolding average_at4
 returns c = refl
 
-pub average4-spec : {M : Type 1} → statement M
-average4-spec = tie.close (tie.spec returns)
+pub average4_spec : {M : Type 1} → statement M
+average4_spec = tie.close (tie.spec returns)

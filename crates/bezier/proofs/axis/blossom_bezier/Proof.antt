@@ -6,7 +6,7 @@ use Rattle.bezier.proofs.axis.blossom_bezier.Tie as tie
 
 returns : tie.Need-returns
 unfolding blossom_at
-returns c = rw (c.lerp6.ensures, c.before.lerp5.ensures, c.before.before.lerp4.ensures, c.before.before.before.lerp3.ensures, c.before.before.before.before.lerp2.ensures, c.before.before.before.before.before.lerp.ensures)
+returns c = rw (c.lerp.ensures, c.before.lerp-b1.ensures, c.before.before.lerp-b0.ensures, c.before.before.before.lerp-a2.ensures, c.before.before.before.before.lerp-a1.ensures, c.before.before.before.before.before.lerp-a0.ensures)
 
-pub blossom-bezier-spec : {M : Type 1} → statement M
-blossom-bezier-spec = tie.close (tie.spec (λ c κs. search rules) (λ c κs. search rules) (λ c κs. search rules) (λ c κs. search rules) (λ c κs. search rules) (λ c κs. search rules) returns)
+pub blossom_bezier_spec : {M : Type 1} → statement M
+blossom_bezier_spec = tie.close (tie.spec (λ c κs. search rules) (λ c κs. search rules) (λ c κs. search rules) (λ c κs. search rules) (λ c κs. search rules) (λ c κs. search rules) returns)

@@ -6,7 +6,7 @@ use Rattle.bezier.proofs.axis.eval_at.Tie as tie
 
 returns : tie.Need-returns
 unfolding eval_at
-returns c = rw (c.before.lerp6.ensures, c.before.before.lerp5.ensures, c.before.before.before.lerp4.ensures, c.before.before.before.before.lerp3.ensures, c.before.before.before.before.before.lerp2.ensures, c.before.before.before.before.before.before.lerp.ensures)
+returns c = rw (c.before.lerp.ensures, c.before.before.lerp-b1.ensures, c.before.before.before.lerp-b0.ensures, c.before.before.before.before.lerp-a2.ensures, c.before.before.before.before.before.lerp-a1.ensures, c.before.before.before.before.before.before.lerp-a0.ensures)
 
-pub eval-at-spec : {M : Type 1} → statement M
-eval-at-spec = tie.close (tie.spec (λ c κs. search rules) (λ c κs. search rules) (λ c κs. search rules) (λ c κs. search rules) (λ c κs. search rules) (λ c κs. search rules) returns)
+pub eval_at_spec : {M : Type 1} → statement M
+eval_at_spec = tie.close (tie.spec (λ c κs. search rules) (λ c κs. search rules) (λ c κs. search rules) (λ c κs. search rules) (λ c κs. search rules) (λ c κs. search rules) returns)

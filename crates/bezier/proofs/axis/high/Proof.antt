@@ -7,5 +7,5 @@ returns : tie.Need-returns
 unfolding high_at
 returns c = rw (c.average2.ensures, c.before.average3.ensures, c.before.before.average4.ensures)
 
-pub high-spec : {M : Type 1} → statement M
-high-spec = tie.close (tie.spec (λ c κs. tt) (λ c κs. tt) (λ c κs. tt) returns)
+pub high_spec : {M : Type 1} → statement M
+high_spec = tie.close (tie.spec (λ c κs. tt) (λ c κs. tt) (λ c κs. tt) returns)

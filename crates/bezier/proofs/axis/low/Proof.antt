@@ -7,5 +7,5 @@ returns : tie.Need-returns
 unfolding low_at
 returns c = rw (c.average4.ensures, c.before.average3.ensures, c.before.before.average2.ensures)
 
-pub low-spec : {M : Type 1} → statement M
-low-spec = tie.close (tie.spec (λ c κs. tt) (λ c κs. tt) (λ c κs. tt) returns)
+pub low_spec : {M : Type 1} → statement M
+low_spec = tie.close (tie.spec (λ c κs. tt) (λ c κs. tt) (λ c κs. tt) returns)

@@ -5,7 +5,7 @@ use Rattle.bezier.proofs.axis.part.Tie as tie
 
 returns : tie.Need-returns
 unfolding between
-returns c = rw (c.blossom-bezier4.ensures, c.before.blossom-bezier3.ensures, c.before.before.blossom-bezier2.ensures, c.before.before.before.blossom-bezier.ensures)
+returns c = rw (c.blossom_bezier-4.ensures, c.before.blossom_bezier-3.ensures, c.before.before.blossom_bezier-2.ensures, c.before.before.before.blossom_bezier.ensures)
 
-pub part-spec : {M : Type 1} → statement M
-part-spec = tie.close (tie.spec (λ c κs. tt) (λ c κs. tt) (λ c κs. tt) (λ c κs. tt) returns)
+pub part_spec : {M : Type 1} → statement M
+part_spec = tie.close (tie.spec (λ c κs. tt) (λ c κs. tt) (λ c κs. tt) (λ c κs. tt) returns)

@@ -3,13 +3,13 @@ use Rattle.float.specs.Basic.{min_of}
 use Rattle.bezier.proofs.extent.min_of_number.Statement.{statement}
 use Rattle.bezier.proofs.extent.min_of_number.Tie as tie
 
-returns : tie.Need-returns
+returns : tie.Need-returns-then-b-a
 unfolding min_of
-returns c = rw (c.before.requires, c.if1.true)
+returns c = rw (c.before.requires, c.if-b-a.true)
 
-returns-2 : tie.Need-returns-2
+returns-2 : tie.Need-returns-else-b-a
 unfolding min_of
-returns-2 c = rw (c.before.requires, c.if1.false)
+returns-2 c = rw (c.before.requires, c.if-b-a.false)
 
-pub min-of-number-spec : {M : Type 1} → statement M
-min-of-number-spec = tie.close (tie.spec returns returns-2)
+pub min_of_number_spec : {M : Type 1} → statement M
+min_of_number_spec = tie.close (tie.spec returns returns-2)

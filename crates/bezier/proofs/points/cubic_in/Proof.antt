@@ -6,7 +6,7 @@ use Rattle.bezier.proofs.points.cubic_in.Tie as tie
 
 returns : tie.Need-returns
 unfolding cubic_in
-returns c = rw (c.point-from4.ensures, c.before.before.point-from3.ensures, c.before.before.before.before.point-from2.ensures, c.before.before.before.before.before.before.point-from.ensures)
+returns c = rw (c.point_from-4.ensures, c.before.before.point_from-3.ensures, c.before.before.before.before.point_from-2.ensures, c.before.before.before.before.before.before.point_from.ensures)
 
-pub cubic-in-spec : {M : Type 1} → statement M
-cubic-in-spec = tie.close (tie.spec (λ c κs. search rules) (λ c κs. search rules) (λ c κs. search rules) (λ c κs. search rules) returns)
+pub cubic_in_spec : {M : Type 1} → statement M
+cubic_in_spec = tie.close (tie.spec (λ c κs. search rules) (λ c κs. search rules) (λ c κs. search rules) (λ c κs. search rules) returns)

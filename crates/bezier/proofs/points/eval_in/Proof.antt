@@ -6,7 +6,7 @@ use Rattle.bezier.proofs.points.eval_in.Tie as tie
 
 returns : tie.Need-returns
 unfolding eval_in
-returns c = rw (c.vector-from.ensures, c.before.before.point-from.ensures)
+returns c = rw (c.vector_from.ensures, c.before.before.point_from.ensures)
 
-pub eval-in-spec : {M : Type 1} → statement M
-eval-in-spec = tie.close (tie.spec (λ c κs. search rules) (λ c κs. search rules) returns)
+pub eval_in_spec : {M : Type 1} → statement M
+eval_in_spec = tie.close (tie.spec (λ c κs. search rules) (λ c κs. search rules) returns)

@@ -5,7 +5,7 @@ use Rattle.bezier.proofs.points.high_half.Statement.{statement}
 use Rattle.bezier.proofs.points.high_half.Tie as tie
 
 returns : tie.Need-returns
-returns c = rw (c.points-by.ensures, c.before.before.before.high3.ensures, c.before.before.before.before.axis-in3.ensures, c.before.before.before.before.before.high2.ensures, c.before.before.before.before.before.before.axis-in2.ensures, c.before.before.before.before.before.before.before.high.ensures, c.before.before.before.before.before.before.before.before.axis-in.ensures) (high_by_axes _)
+returns c = rw (c.points_by.ensures, c.before.before.before.high-3.ensures, c.before.before.before.before.axis_in-3.ensures, c.before.before.before.before.before.high-2.ensures, c.before.before.before.before.before.before.axis_in-2.ensures, c.before.before.before.before.before.before.before.high.ensures, c.before.before.before.before.before.before.before.before.axis_in.ensures) (high_by_axes _)
 
-pub high-half-spec : {M : Type 1} → statement M
-high-half-spec = tie.close (tie.spec (λ c κs. search rules) (λ c κs. tt) (λ c κs. search rules) (λ c κs. tt) (λ c κs. search rules) (λ c κs. tt) (λ c κs. search rules) (λ c κs. tt) (λ c κs. tt) returns)
+pub high_half_spec : {M : Type 1} → statement M
+high_half_spec = tie.close (tie.spec (λ c κs. search rules) (λ c κs. tt) (λ c κs. search rules) (λ c κs. tt) (λ c κs. search rules) (λ c κs. tt) (λ c κs. search rules) (λ c κs. tt) (λ c κs. tt) returns)

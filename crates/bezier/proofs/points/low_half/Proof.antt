@@ -5,7 +5,7 @@ use Rattle.bezier.proofs.points.low_half.Statement.{statement}
 use Rattle.bezier.proofs.points.low_half.Tie as tie
 
 returns : tie.Need-returns
-returns c = rw (c.points-by.ensures, c.before.before.before.low3.ensures, c.before.before.before.before.axis-in3.ensures, c.before.before.before.before.before.low2.ensures, c.before.before.before.before.before.before.axis-in2.ensures, c.before.before.before.before.before.before.before.low.ensures, c.before.before.before.before.before.before.before.before.axis-in.ensures) (low_by_axes _)
+returns c = rw (c.points_by.ensures, c.before.before.before.low-3.ensures, c.before.before.before.before.axis_in-3.ensures, c.before.before.before.before.before.low-2.ensures, c.before.before.before.before.before.before.axis_in-2.ensures, c.before.before.before.before.before.before.before.low.ensures, c.before.before.before.before.before.before.before.before.axis_in.ensures) (low_by_axes _)
 
-pub low-half-spec : {M : Type 1} → statement M
-low-half-spec = tie.close (tie.spec (λ c κs. search rules) (λ c κs. tt) (λ c κs. search rules) (λ c κs. tt) (λ c κs. search rules) (λ c κs. tt) (λ c κs. search rules) (λ c κs. tt) (λ c κs. tt) returns)
+pub low_half_spec : {M : Type 1} → statement M
+low_half_spec = tie.close (tie.spec (λ c κs. search rules) (λ c κs. tt) (λ c κs. search rules) (λ c κs. tt) (λ c κs. search rules) (λ c κs. tt) (λ c κs. search rules) (λ c κs. tt) (λ c κs. tt) returns)

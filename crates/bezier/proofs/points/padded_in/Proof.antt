@@ -9,5 +9,5 @@ returns : tie.Need-returns
 unfolding padded_in
 returns c = refl
 
-pub padded-in-spec : {M : Type 1} → statement M
-padded-in-spec = tie.close (tie.spec (λ c. search rules) (λ c. search rules) (λ c. search rules) (λ c. search rules) (λ c. search rules) (λ c. search rules) (λ c. search rules) (λ c. search rules) (λ c. search rules) (λ c. search rules) (λ c. search rules) returns)
+pub padded_in_spec : {M : Type 1} → statement M
+padded_in_spec = tie.close (tie.spec (λ c. search rules) (λ c. search rules) (λ c. search rules) (λ c. search rules) (λ c. search rules) (λ c. search rules) (λ c. search rules) (λ c. search rules) (λ c. search rules) (λ c. search rules) (λ c. search rules) returns)

@@ -10,5 +10,5 @@ returns : tie.Need-returns
 unfolding cubic_in cubic_of point_from
 returns c = refl
 
-pub points-by-spec : {M : Type 1} → statement M
-points-by-spec = tie.close (tie.spec returns)
+pub points_by_spec : {M : Type 1} → statement M
+points_by_spec = tie.close (tie.spec returns)

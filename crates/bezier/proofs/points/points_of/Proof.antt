@@ -9,5 +9,5 @@ returns : tie.Need-returns
 unfolding cubic_in point_from
 returns c = refl
 
-pub points-of-spec : {M : Type 1} → statement M
-points-of-spec = tie.close (tie.spec returns)
+pub points_of_spec : {M : Type 1} → statement M
+points_of_spec = tie.close (tie.spec returns)

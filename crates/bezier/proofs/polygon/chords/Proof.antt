@@ -9,9 +9,9 @@ use Rattle.bezier.proofs.polygon.chords.Tie as tie
 
 returns : tie.Need-returns
 unfolding chords_of cubic_in axis_in point_from distance_of difference length_of
-returns c = rw (c.sqrt3.ensures, c.before.sqrt2.ensures, c.before.before.sqrt.ensures, c.before.before.before.square-of3.ensures, c.before.before.before.before.before.before.before.square-of2.ensures, c.before.before.before.before.before.before.before.before.before.before.before.square-of.ensures, c.before.before.before.before.before.before.before.before.before.before.before.before.before.before.before.axis-in3.ensures, c.before.before.before.before.before.before.before.before.before.before.before.before.before.before.before.before.axis-in2.ensures, c.before.before.before.before.before.before.before.before.before.before.before.before.before.before.before.before.before.axis-in.ensures)
+returns c = rw (c.sqrt-3.ensures, c.before.sqrt-2.ensures, c.before.before.sqrt.ensures, c.before.before.before.square_of-d2.ensures, c.before.before.before.before.before.before.before.square_of-d1.ensures, c.before.before.before.before.before.before.before.before.before.before.before.square_of-d0.ensures, c.before.before.before.before.before.before.before.before.before.before.before.before.before.before.before.axis_in-z.ensures, c.before.before.before.before.before.before.before.before.before.before.before.before.before.before.before.before.axis_in-y.ensures, c.before.before.before.before.before.before.before.before.before.before.before.before.before.before.before.before.before.axis_in-x.ensures)
 
-pub chords-spec : {M : Type 1} → statement M
-chords-spec =
+pub chords_spec : {M : Type 1} → statement M
+chords_spec =
     tie.close
     (tie.spec (λ c κs. search rules) (λ c κs. search rules) (λ c κs. search rules) (λ c κs. tt) (λ c κs. tt) (λ c κs. tt) (λ c κs. search rules) (λ c κs. search rules) (λ c κs. search rules) returns)

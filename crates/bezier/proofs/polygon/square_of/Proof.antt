@@ -6,7 +6,7 @@ use Rattle.bezier.proofs.polygon.square_of.Tie as tie
 
 returns : tie.Need-returns
 unfolding length_squared
-returns c = rw c.length-squared.ensures
+returns c = rw c.length_squared.ensures
 
-pub square-of-spec : {M : Type 1} → statement M
-square-of-spec = tie.close (tie.spec (λ c κs. search rules) returns)
+pub square_of_spec : {M : Type 1} → statement M
+square_of_spec = tie.close (tie.spec (λ c κs. search rules) returns)

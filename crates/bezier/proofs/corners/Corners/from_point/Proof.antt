@@ -5,7 +5,7 @@ use Rattle.bezier.proofs.corners.Corners.from_point.Tie as tie
 
 returns : tie.Need-returns
 unfolding corners_at
-returns c = rw (c.from-value4.ensures, c.before.from-value3.ensures, c.before.before.from-value2.ensures, c.before.before.before.from-value.ensures)
+returns c = rw (c.from_value-4.ensures, c.before.from_value-3.ensures, c.before.before.from_value-2.ensures, c.before.before.before.from_value.ensures)
 
-pub from-point-spec : {M : Type 1} → statement M
-from-point-spec = tie.close (tie.spec (λ c κs. tt) (λ c κs. tt) (λ c κs. tt) (λ c κs. tt) returns)
+pub from_point_spec : {M : Type 1} → statement M
+from_point_spec = tie.close (tie.spec (λ c κs. tt) (λ c κs. tt) (λ c κs. tt) (λ c κs. tt) returns)

@@ -6,7 +6,7 @@ use Rattle.bezier.proofs.corners.Corners.union_of_numbers.Tie as tie
 
 returns : tie.Need-returns
 unfolding corners_with
-returns c = rw (c.union-of-numbers4.ensures, c.before.union-of-numbers3.ensures, c.before.before.union-of-numbers2.ensures, c.before.before.before.union-of-numbers.ensures)
+returns c = rw (c.union_of_numbers-4.ensures, c.before.before.union_of_numbers-3.ensures, c.before.before.before.before.union_of_numbers-2.ensures, c.before.before.before.before.before.before.union_of_numbers.ensures)
 
-pub union-of-numbers-spec : {M : Type 1} → statement M
-union-of-numbers-spec = tie.close (tie.spec (λ c κs. search rules) (λ c κs. search rules) (λ c κs. search rules) (λ c κs. search rules) returns)
+pub union_of_numbers_spec : {M : Type 1} → statement M
+union_of_numbers_spec = tie.close (tie.spec (λ c κs. search rules) (λ c κs. search rules) (λ c κs. search rules) (λ c κs. search rules) returns)

@@ -5,7 +5,7 @@ use Rattle.bezier.proofs.corners.Corners.union_point.Tie as tie
 
 returns : tie.Need-returns
 unfolding corners_with
-returns c = rw (c.union-value4.ensures, c.before.union-value3.ensures, c.before.before.union-value2.ensures, c.before.before.before.union-value.ensures)
+returns c = rw (c.union_value-4.ensures, c.before.before.union_value-3.ensures, c.before.before.before.before.union_value-2.ensures, c.before.before.before.before.before.before.union_value.ensures)
 
-pub union-point-spec : {M : Type 1} → statement M
-union-point-spec = tie.close (tie.spec (λ c κs. tt) (λ c κs. tt) (λ c κs. tt) (λ c κs. tt) returns)
+pub union_point_spec : {M : Type 1} → statement M
+union_point_spec = tie.close (tie.spec (λ c κs. tt) (λ c κs. tt) (λ c κs. tt) (λ c κs. tt) returns)

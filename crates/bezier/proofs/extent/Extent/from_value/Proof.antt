@@ -8,5 +8,5 @@ returns : tie.Need-returns
 unfolding extent_at
 returns c = refl
 
-pub from-value-spec : {M : Type 1} → statement M
-from-value-spec = tie.close (tie.spec returns)
+pub from_value_spec : {M : Type 1} → statement M
+from_value_spec = tie.close (tie.spec returns)

@@ -6,7 +6,7 @@ use Rattle.bezier.proofs.extent.Extent.union_extent.Tie as tie
 
 returns : tie.Need-returns
 unfolding extent_union
-returns c = rw (c.max-of-number.ensures, c.before.min-of-number.ensures)
+returns c = rw (c.max_of_number.ensures, c.before.min_of_number.ensures)
 
-pub union-extent-spec : {M : Type 1} → statement M
-union-extent-spec = tie.close (tie.spec (λ c κs. search rules) (λ c κs. search rules) returns)
+pub union_extent_spec : {M : Type 1} → statement M
+union_extent_spec = tie.close (tie.spec (λ c κs. search rules) (λ c κs. search rules) returns)

@@ -6,7 +6,7 @@ use Rattle.bezier.proofs.extent.Extent.union_of_numbers.Tie as tie
 
 returns : tie.Need-returns
 unfolding extent_with
-returns c = rw (c.union-extent.ensures, c.before.from-value.ensures)
+returns c = rw (c.union_extent.ensures, c.before.from_value.ensures)
 
-pub union-of-numbers-spec : {M : Type 1} → statement M
-union-of-numbers-spec = tie.close (tie.spec (λ c κs. tt) (λ c κs. search rules) returns)
+pub union_of_numbers_spec : {M : Type 1} → statement M
+union_of_numbers_spec = tie.close (tie.spec (λ c κs. tt) (λ c κs. search rules) returns)

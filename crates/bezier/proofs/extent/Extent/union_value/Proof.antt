@@ -8,5 +8,5 @@ returns : tie.Need-returns
 unfolding extent_with extent_union extent_at
 returns c = rw (c.max.ensures, c.before.min.ensures)
 
-pub union-value-spec : {M : Type 1} → statement M
-union-value-spec = tie.close (tie.spec (λ c κs. search rules) (λ c κs. search rules) returns)
+pub union_value_spec : {M : Type 1} → statement M
+union_value_spec = tie.close (tie.spec (λ c κs. search rules) (λ c κs. search rules) returns)
