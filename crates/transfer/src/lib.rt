@@ -10,6 +10,10 @@ ghost use Rattle.transfer.specs.Transfer.{start as Transfer·start};
 use std::io;
 use std::io::{Read, Write};
 
+mod failure;
+
+pub use failure::fail;
+
 // The number of the system's error for a call that a signal interrupted.
 const EINTR: i32 = 4;
 
@@ -116,7 +120,7 @@ fn is_due(t: Transfer, n: usize) -> bool
 }
 
 // The number of an error: 0 where it is not the system's.
-fn number_of(error: &io::Error) -> i32 {
+pub fn number_of(error: &io::Error) -> i32 {
     match error.raw_os_error() {
         Some(number) => number,
         None => 0,
