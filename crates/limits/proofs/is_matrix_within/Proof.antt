@@ -5,7 +5,7 @@ use Rattle.limits.proofs.is_matrix_within.Tie as tie
 
 returns : tie.Need-returns
 unfolding matrix_within
-returns c = rw (c.is-row-within4.ensures, c.before.is-row-within3.ensures, c.before.before.is-row-within2.ensures, c.before.before.before.is-row-within.ensures)
+returns c = rw (c.is_row_within-4.ensures, c.before.before.is_row_within-3.ensures, c.before.before.before.before.is_row_within-2.ensures, c.before.before.before.before.before.before.is_row_within.ensures)
 
-pub is-matrix-within-spec : {M : Type 1} → statement M
-is-matrix-within-spec = tie.close (tie.spec (λ c κs. tt) (λ c κs. tt) (λ c κs. tt) (λ c κs. tt) returns)
+pub is_matrix_within_spec : {M : Type 1} → statement M
+is_matrix_within_spec = tie.close (tie.spec (λ c κs. tt) (λ c κs. tt) (λ c κs. tt) (λ c κs. tt) returns)

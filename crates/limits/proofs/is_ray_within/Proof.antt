@@ -5,7 +5,7 @@ use Rattle.limits.proofs.is_ray_within.Tie as tie
 
 returns : tie.Need-returns
 unfolding ray_within
-returns c = rw (c.before.is-within7.ensures, c.before.before.is-within6.ensures, c.before.before.before.is-within5.ensures, c.before.before.before.before.is-within4.ensures, c.before.before.before.before.before.is-within3.ensures, c.before.before.before.before.before.before.is-within2.ensures, c.before.before.before.before.before.before.before.is_Within.ensures)
+returns c = rw (c.before.is_within-7.ensures, c.before.before.is_within-6.ensures, c.before.before.before.is_within-5.ensures, c.before.before.before.before.is_within-4.ensures, c.before.before.before.before.before.is_within-3.ensures, c.before.before.before.before.before.before.is_within-2.ensures, c.before.before.before.before.before.before.before.is_within.ensures)
 
-pub is-ray-within-spec : {M : Type 1} → statement M
-is-ray-within-spec = tie.close (tie.spec (λ c κs. tt) (λ c κs. tt) (λ c κs. tt) (λ c κs. tt) (λ c κs. tt) (λ c κs. tt) (λ c κs. tt) returns)
+pub is_ray_within_spec : {M : Type 1} → statement M
+is_ray_within_spec = tie.close (tie.spec (λ c κs. tt) (λ c κs. tt) (λ c κs. tt) (λ c κs. tt) (λ c κs. tt) (λ c κs. tt) (λ c κs. tt) returns)

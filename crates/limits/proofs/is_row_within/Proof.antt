@@ -5,7 +5,7 @@ use Rattle.limits.proofs.is_row_within.Tie as tie
 
 returns : tie.Need-returns
 unfolding row_within
-returns c = rw (c.is-within4.ensures, c.before.is-within3.ensures, c.before.before.is-within2.ensures, c.before.before.before.is_Within.ensures)
+returns c = rw (c.is_within-4.ensures, c.before.is_within-3.ensures, c.before.before.is_within-2.ensures, c.before.before.before.is_within.ensures)
 
-pub is-row-within-spec : {M : Type 1} → statement M
-is-row-within-spec = tie.close (tie.spec (λ c κs. tt) (λ c κs. tt) (λ c κs. tt) (λ c κs. tt) returns)
+pub is_row_within_spec : {M : Type 1} → statement M
+is_row_within_spec = tie.close (tie.spec (λ c κs. tt) (λ c κs. tt) (λ c κs. tt) (λ c κs. tt) returns)

@@ -8,5 +8,5 @@ returns : tie.Need-returns
 unfolding width_within
 returns c = refl
 
-pub is-width-within-spec : {M : Type 1} → statement M
-is-width-within-spec = tie.close (tie.spec returns)
+pub is_width_within_spec : {M : Type 1} → statement M
+is_width_within_spec = tie.close (tie.spec returns)

@@ -9,5 +9,5 @@ returns : tie.Need-returns
 unfolding flat
 returns c = refl
 
-pub flatten-spec : {M : Type 1} → statement M
-flatten-spec = tie.close (tie.spec returns)
+pub flatten_spec : {M : Type 1} → statement M
+flatten_spec = tie.close (tie.spec returns)

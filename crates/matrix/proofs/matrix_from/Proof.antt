@@ -6,7 +6,7 @@ use Rattle.matrix.proofs.matrix_from.Tie as tie
 
 returns : tie.Need-returns
 unfolding matrix_from
-returns c = rw (c.row-from4.ensures, c.before.row-from3.ensures, c.before.before.row-from2.ensures, c.before.before.before.row_from.ensures)
+returns c = rw (c.row_from-4.ensures, c.before.row_from-3.ensures, c.before.before.row_from-2.ensures, c.before.before.before.row_from.ensures)
 
-pub matrix-from-spec : {M : Type 1} → statement M
-matrix-from-spec = tie.close (tie.spec (λ c κs. search rules) (λ c. search rules) (λ c κs. search rules) (λ c. search rules) (λ c κs. search rules) (λ c. search rules) (λ c κs. search rules) returns)
+pub matrix_from_spec : {M : Type 1} → statement M
+matrix_from_spec = tie.close (tie.spec (λ c κs. search rules) (λ c. search rules) (λ c κs. search rules) (λ c. search rules) (λ c κs. search rules) (λ c. search rules) (λ c κs. search rules) returns)

@@ -9,5 +9,5 @@ returns : tie.Need-returns
 unfolding swaps_handedness
 returns c = refl
 
-pub swaps-handedness-spec : {M : Type 1} → statement M
-swaps-handedness-spec = tie.close (tie.spec returns)
+pub swaps_handedness_spec : {M : Type 1} → statement M
+swaps_handedness_spec = tie.close (tie.spec returns)

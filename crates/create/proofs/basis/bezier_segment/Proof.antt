@@ -5,13 +5,13 @@ use Rattle.create.specs.Basis.{bezier_segment}
 use Rattle.create.proofs.basis.bezier_segment.Statement.{statement}
 use Rattle.create.proofs.basis.bezier_segment.Tie as tie
 
-returns : tie.Need-returns
+returns : tie.Need-returns-then-degree-eq2
 unfolding bezier_segment
-returns c = rw (← c.before.before.before.before.point-from.ensures, ← c.before.before.before.point-from2.ensures, ← c.before.before.point-from3.ensures, eq-eqb _ _ c.before.if1.true, ← c.elevate.ensures)
+returns c = rw (← c.before.before.before.before.point_from-p0.ensures, ← c.before.before.before.point_from-p1.ensures, ← c.before.before.point_from-p2.ensures, eq-eqb _ _ c.before.if-degree-eq2.true, ← c.elevate.ensures)
 
-returns-2 : tie.Need-returns-2
+returns-2 : tie.Need-returns-else-degree-eq2
 unfolding bezier_segment
-returns-2 c = rw (← c.before.before.before.before.point-from.ensures, ← c.before.before.before.point-from2.ensures, ← c.before.before.point-from3.ensures, ne_eqb _ _ c.before.if1.false, ← c.point-from4.ensures)
+returns-2 c = rw (← c.before.before.before.before.point_from-p0.ensures, ← c.before.before.before.point_from-p1.ensures, ← c.before.before.point_from-p2.ensures, ne_eqb _ _ c.before.if-degree-eq2.false, ← c.point_from-p3.ensures)
 
-pub bezier-segment-spec : {M : Type 1} → statement M
-bezier-segment-spec = tie.close (tie.spec (λ c κs. search rules) (λ c. search rules) (λ c κs. search rules) (λ c. search rules) (λ c κs. search rules) (λ c κs. tt) (λ c. search rules) (λ c κs. search rules) returns returns-2)
+pub bezier_segment_spec : {M : Type 1} → statement M
+bezier_segment_spec = tie.close (tie.spec (λ c κs. search rules) (λ c. search rules) (λ c κs. search rules) (λ c. search rules) (λ c κs. search rules) (λ c κs. tt) (λ c. search rules) (λ c κs. search rules) returns returns-2)

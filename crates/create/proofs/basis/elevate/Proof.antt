@@ -5,7 +5,7 @@ use Rattle.create.proofs.basis.elevate.Tie as tie
 
 returns : tie.Need-returns
 unfolding elevated
-returns c = rw (c.lerp2.ensures, c.before.lerp.ensures)
+returns c = rw (c.lerp-2.ensures, c.before.lerp.ensures)
 
-pub elevate-spec : {M : Type 1} → statement M
-elevate-spec = tie.close (tie.spec (λ c κs. tt) (λ c κs. tt) returns)
+pub elevate_spec : {M : Type 1} → statement M
+elevate_spec = tie.close (tie.spec (λ c κs. tt) (λ c κs. tt) returns)

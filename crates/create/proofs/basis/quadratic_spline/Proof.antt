@@ -5,7 +5,7 @@ use Rattle.create.proofs.basis.quadratic_spline.Tie as tie
 
 returns : tie.Need-returns
 unfolding quadratic_spline
-returns c = rw (c.elevate.ensures, c.before.lerp2.ensures, c.before.before.lerp.ensures)
+returns c = rw (c.elevate.ensures, c.before.lerp-p22.ensures, c.before.before.lerp-p11.ensures)
 
-pub quadratic-spline-spec : {M : Type 1} → statement M
-quadratic-spline-spec = tie.close (tie.spec (λ c κs. tt) (λ c κs. tt) (λ c κs. tt) returns)
+pub quadratic_spline_spec : {M : Type 1} → statement M
+quadratic_spline_spec = tie.close (tie.spec (λ c κs. tt) (λ c κs. tt) (λ c κs. tt) returns)

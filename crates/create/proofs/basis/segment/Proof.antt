@@ -5,13 +5,13 @@ use Rattle.create.specs.Basis.{segment_at}
 use Rattle.create.proofs.basis.segment.Statement.{statement}
 use Rattle.create.proofs.basis.segment.Tie as tie
 
-returns : tie.Need-returns
+returns : tie.Need-returns-then-basis-eq0
 unfolding segment_at
-returns c = rw (eq-eqb _ _ c.before.if1.true, ← c.bezier-segment.ensures)
+returns c = rw (eq-eqb _ _ c.before.if-basis-eq0.true, ← c.bezier_segment.ensures)
 
-returns-2 : tie.Need-returns-2
+returns-2 : tie.Need-returns-else-basis-eq0
 unfolding segment_at
-returns-2 c = rw (ne_eqb _ _ c.before.if1.false, ← c.spline-segment.ensures)
+returns-2 c = rw (ne_eqb _ _ c.before.if-basis-eq0.false, ← c.spline_segment.ensures)
 
-pub segment-spec : {M : Type 1} → statement M
-segment-spec = tie.close (tie.spec (λ c κs. search rules) (λ c κs. search rules) returns returns-2)
+pub segment_spec : {M : Type 1} → statement M
+segment_spec = tie.close (tie.spec (λ c κs. search rules) (λ c κs. search rules) returns returns-2)

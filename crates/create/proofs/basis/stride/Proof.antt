@@ -5,13 +5,13 @@ use Rattle.create.specs.Basis.{stride_of}
 use Rattle.create.proofs.basis.stride.Statement.{statement}
 use Rattle.create.proofs.basis.stride.Tie as tie
 
-returns : tie.Need-returns
+returns : tie.Need-returns-then-basis-eq0
 unfolding stride_of
-returns c = rw (eq-eqb _ _ c.if1.true)
+returns c = rw (eq-eqb _ _ c.if-basis-eq0.true)
 
-returns-2 : tie.Need-returns-2
+returns-2 : tie.Need-returns-else-basis-eq0
 unfolding stride_of
-returns-2 c = rw (ne_eqb _ _ c.if1.false)
+returns-2 c = rw (ne_eqb _ _ c.if-basis-eq0.false)
 
-pub stride-spec : {M : Type 1} → statement M
-stride-spec = tie.close (tie.spec (λ c. search rules) returns returns-2)
+pub stride_spec : {M : Type 1} → statement M
+stride_spec = tie.close (tie.spec (λ c. search rules) returns returns-2)

@@ -20,28 +20,28 @@ use Rattle.create.proofs.create.create_curve.Tie as tie
 abbrev part : Cubic → Float → Float → ℕ → ℕ → List Float
 part cp w0 w1 n j = curve_floats (part_of cp w0 w1 n j)
 
-abbrev invariant-loop : tie.invariant-loop
+abbrev invariant-loop : tie.invariant-loop-i
 invariant-loop list₀ at cp width0 width1 n to₀ i₀ list to i = (i ≤ n) × (to ≡ at + i * floats) × (list ≡ over list₀ at (up_to (part cp width0 width1 n) i)) × (length list ≡ length list₀)
 
-abbrev decreases-loop : tie.decreases-loop
+abbrev decreases-loop : tie.decreases-loop-i
 decreases-loop list₀ at cp width0 width1 n to₀ i₀ list to i = n - i
 
-loop-holds : tie.Need-loop-init invariant-loop decreases-loop
+loop-holds : tie.Need-loop-i-init invariant-loop decreases-loop
 unfolding up_to
 loop-holds c = let s = c.before in (omega arith, omega arith, sym (over_nil s.args.list.now s.args.at), refl)
 
-loop-again : tie.Need-loop-preserved invariant-loop decreases-loop
+loop-again : tie.Need-loop-i-preserved invariant-loop decreases-loop
 loop-again c =
     let called = c.before.before in
     let l = called.before.before.before in
     let s = l.before.before in
     let d = s.args.list.now in
     let f = part s.args.cp s.args.width0 s.args.width1 s.args.n in
-    let i = l.loop.i in
-    let written : called.put-part.new.0 ≡ over d s.args.at (up_to f (i + 1)) =
-    called.put-part.ensures
-    ∙ ap (λ (x : List Float). over x l.loop.to (f i)) l.loop.invariant.2
-    ∙ ap (λ (x : ℕ). over (over d s.args.at (up_to f i)) x (f i)) l.loop.invariant.1
+    let i = l.loop-i.i in
+    let written : called.put_part.new.0 ≡ over d s.args.at (up_to f (i + 1)) =
+    called.put_part.ensures
+    ∙ ap (λ (x : List Float). over x l.loop-i.to (f i)) l.loop-i.invariant.2
+    ∙ ap (λ (x : ℕ). over (over d s.args.at (up_to f i)) x (f i)) l.loop-i.invariant.1
     ∙ over_next d s.args.at f floats i (λ j. length-floats _) (omega arith) in
     (omega arith, omega arith, written, ap length written ∙ over-length d s.args.at f floats (i + 1) (λ j. length-floats _) (omega arith))
 
@@ -50,10 +50,10 @@ unfolding part_floats
 returns c =
     let l = c.before in
     let s = l.before.before in
-    l.loop.invariant.2
-    ∙ ap (λ (x : ℕ). over s.args.list.now s.args.at (up_to (part s.args.cp s.args.width0 s.args.width1 s.args.n) x)) (le_antisymm l.loop.invariant.0 c.loop-test.false)
+    l.loop-i.invariant.2
+    ∙ ap (λ (x : ℕ). over s.args.list.now s.args.at (up_to (part s.args.cp s.args.width0 s.args.width1 s.args.n) x)) (le_antisymm l.loop-i.invariant.0 c.loop-i-test.false)
 
-pub create-curve-spec : {M : Type 1} → statement M
-create-curve-spec =
+pub create_curve_spec : {M : Type 1} → statement M
+create_curve_spec =
     tie.close
     (tie.spec invariant-loop decreases-loop loop-holds (λ c κs. search rules) (λ c. search rules) (λ c. search rules) (λ c. search rules) loop-again (λ c. search rules) returns)

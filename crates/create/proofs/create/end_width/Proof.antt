@@ -7,5 +7,5 @@ returns : tie.Need-returns
 unfolding end_width
 returns c = rw (c.lerp.ensures, c.before.quotient.ensures)
 
-pub end-width-spec : {M : Type 1} → statement M
-end-width-spec = tie.close (tie.spec (λ c κs. tt) (λ c κs. tt) returns)
+pub end_width_spec : {M : Type 1} → statement M
+end_width_spec = tie.close (tie.spec (λ c κs. tt) (λ c κs. tt) returns)

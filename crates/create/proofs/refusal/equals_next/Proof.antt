@@ -6,7 +6,7 @@ use Rattle.create.proofs.refusal.equals_next.Tie as tie
 
 returns : tie.Need-returns
 unfolding equals_next
-returns c = rw (← c.before.before.point-from.ensures, ← c.before.point-from2.ensures) c.eq.ensures
+returns c = rw (← c.before.before.point_from.ensures, ← c.before.point_from-2.ensures) c.eq.ensures
 
-pub equals-next-spec : {M : Type 1} → statement M
-equals-next-spec = tie.close (tie.spec (λ c. search rules) (λ c κs. search rules) (λ c. search rules) (λ c κs. search rules) (λ c κs. tt) returns)
+pub equals_next_spec : {M : Type 1} → statement M
+equals_next_spec = tie.close (tie.spec (λ c. search rules) (λ c κs. search rules) (λ c. search rules) (λ c κs. search rules) (λ c κs. tt) returns)

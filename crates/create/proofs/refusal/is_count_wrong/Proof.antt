@@ -6,17 +6,17 @@ use Rattle.create.proofs.Divisible.{unsigned}
 use Rattle.create.proofs.refusal.is_count_wrong.Statement.{statement}
 use Rattle.create.proofs.refusal.is_count_wrong.Tie as tie
 
-returns : tie.Need-returns
+returns : tie.Need-returns-then-floats-ne0
 unfolding count_wrong
-returns c = rw (ne_eqb _ _ c.if1.true)
+returns c = rw (ne_eqb _ _ c.if-floats-ne0.true)
 
-returns-2 : tie.Need-returns-2
+returns-2 : tie.Need-returns-then-basis-eq0
 unfolding count_wrong
-returns-2 c = rw (eq-eqb _ _ c.before.if1.false, eq-eqb _ _ c.if2.true, unsigned _ _ c.before.before.requires.0)
+returns-2 c = rw (eq-eqb _ _ c.before.if-floats-ne0.false, eq-eqb _ _ c.if-basis-eq0.true, unsigned _ _ c.before.before.requires.0)
 
-returns-3 : tie.Need-returns-3
+returns-3 : tie.Need-returns-else-basis-eq0
 unfolding count_wrong
-returns-3 c = rw (eq-eqb _ _ c.before.if1.false, ne_eqb _ _ c.if2.false)
+returns-3 c = rw (eq-eqb _ _ c.before.if-floats-ne0.false, ne_eqb _ _ c.if-basis-eq0.false)
 
-pub is-count-wrong-spec : {M : Type 1} → statement M
-is-count-wrong-spec = tie.close (tie.spec (λ c. search rules) (λ c. search rules) (λ c. search rules) returns returns-2 returns-3)
+pub is_count_wrong_spec : {M : Type 1} → statement M
+is_count_wrong_spec = tie.close (tie.spec (λ c. search rules) (λ c. search rules) (λ c. search rules) returns returns-2 returns-3)

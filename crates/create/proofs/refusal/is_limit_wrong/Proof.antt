@@ -5,7 +5,7 @@ use Rattle.create.proofs.refusal.is_limit_wrong.Tie as tie
 
 returns : tie.Need-returns
 unfolding limit_wrong
-returns c = rw (c.is-width-within2.ensures, c.before.is-width-within.ensures, c.before.before.is-all-within.ensures)
+returns c = rw (c.is_width_within-width1_within.ensures, c.before.is_width_within-width0_within.ensures, c.before.before.is_all_within-points_within.ensures)
 
-pub is-limit-wrong-spec : {M : Type 1} → statement M
-is-limit-wrong-spec = tie.close (tie.spec (λ c κs. tt) (λ c κs. tt) (λ c κs. tt) returns)
+pub is_limit_wrong_spec : {M : Type 1} → statement M
+is_limit_wrong_spec = tie.close (tie.spec (λ c κs. tt) (λ c κs. tt) (λ c κs. tt) returns)

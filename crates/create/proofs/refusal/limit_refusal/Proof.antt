@@ -6,25 +6,25 @@ use Rattle.limits.specs.Refusal.{first_of}
 use Rattle.create.proofs.refusal.limit_refusal.Statement.{statement}
 use Rattle.create.proofs.refusal.limit_refusal.Tie as tie
 
-returns : tie.Need-returns
+returns : tie.Need-returns-then-n-gt-MOST_POINTS
 unfolding first_of limit_refusals
-returns c = rw (lt-ltb _ _ c.if1.true)
+returns c = rw (lt-ltb _ _ c.if-n-gt-MOST_POINTS.true)
 
-returns-2 : tie.Need-returns-2
+returns-2 : tie.Need-returns-then-curves-gt-MOST_CURVES
 unfolding first_of limit_refusals
-returns-2 c = rw (le-ltb _ _ c.before.before.if1.false, ← c.before.curve-count.ensures, lt-ltb _ _ c.if2.true)
+returns-2 c = rw (le-ltb _ _ c.before.before.if-n-gt-MOST_POINTS.false, ← c.before.curve_count-curves.ensures, lt-ltb _ _ c.if-curves-gt-MOST_CURVES.true)
 
-returns-3 : tie.Need-returns-3
+returns-3 : tie.Need-returns-then-is_limit_wrong
 unfolding first_of limit_refusals
-returns-3 c = rw (le-ltb _ _ c.before.before.before.before.if1.false, ← c.before.before.before.curve-count.ensures, le-ltb _ _ c.before.before.if2.false, ← c.before.is-limit-wrong.ensures, c.if3.true)
+returns-3 c = rw (le-ltb _ _ c.before.before.before.before.if-n-gt-MOST_POINTS.false, ← c.before.before.before.curve_count-curves.ensures, le-ltb _ _ c.before.before.if-curves-gt-MOST_CURVES.false, ← c.before.is_limit_wrong.ensures, c.if-is_limit_wrong.true)
 
-returns-4 : tie.Need-returns-4
+returns-4 : tie.Need-returns-then-room-curves
 unfolding first_of limit_refusals
-returns-4 c = rw (le-ltb _ _ c.before.before.before.before.before.if1.false, ← c.before.before.before.before.curve-count.ensures, le-ltb _ _ c.before.before.before.if2.false, ← c.before.before.is-limit-wrong.ensures, c.before.if3.false, lt-ltb _ _ c.if4.true)
+returns-4 c = rw (le-ltb _ _ c.before.before.before.before.before.if-n-gt-MOST_POINTS.false, ← c.before.before.before.before.curve_count-curves.ensures, le-ltb _ _ c.before.before.before.if-curves-gt-MOST_CURVES.false, ← c.before.before.is_limit_wrong.ensures, c.before.if-is_limit_wrong.false, lt-ltb _ _ c.if-room-curves.true)
 
-returns-5 : tie.Need-returns-5
+returns-5 : tie.Need-returns
 unfolding first_of limit_refusals
-returns-5 c = rw (le-ltb _ _ c.before.before.before.before.before.if1.false, ← c.before.before.before.before.curve-count.ensures, le-ltb _ _ c.before.before.before.if2.false, ← c.before.before.is-limit-wrong.ensures, c.before.if3.false, le-ltb _ _ c.if4.false)
+returns-5 c = rw (le-ltb _ _ c.before.before.before.before.before.if-n-gt-MOST_POINTS.false, ← c.before.before.before.before.curve_count-curves.ensures, le-ltb _ _ c.before.before.before.if-curves-gt-MOST_CURVES.false, ← c.before.before.is_limit_wrong.ensures, c.before.if-is_limit_wrong.false, le-ltb _ _ c.if-room-curves.false)
 
-pub limit-refusal-spec : {M : Type 1} → statement M
-limit-refusal-spec = tie.close (tie.spec returns (λ c κs. search rules) returns-2 (λ c κs. tt) returns-3 (λ c. search rules) returns-4 returns-5)
+pub limit_refusal_spec : {M : Type 1} → statement M
+limit_refusal_spec = tie.close (tie.spec returns (λ c κs. search rules) returns-2 (λ c κs. tt) returns-3 (λ c. search rules) returns-4 returns-5)

@@ -17,13 +17,13 @@ use Rattle.create.proofs.refusal.neighbours_differ.Tie as tie
 abbrev P : List Float → ℕ → Bool
 P l i = not (equals_next l i)
 
-abbrev invariant-loop : tie.invariant-loop
+abbrev invariant-loop : tie.invariant-loop-i
 invariant-loop points pairs i₀ i = (i ≤ pairs) × (all_below i (P points) ≡ true)
 
-abbrev decreases-loop : tie.decreases-loop
+abbrev decreases-loop : tie.decreases-loop-i
 decreases-loop points pairs i₀ i = pairs - i
 
-loop-holds : tie.Need-loop-init invariant-loop decreases-loop
+loop-holds : tie.Need-loop-i-init invariant-loop decreases-loop
 unfolding all_below
 loop-holds c = (omega arith, refl)
 
@@ -31,28 +31,28 @@ loop-holds c = (omega arith, refl)
 pair-within : (n i : ℕ) → i < n / 3 - 1 → 3 * i + 6 ≤ n
 pair-within n i h = omega arith
 
-equals-next-requires : tie.Need-equals-next-requires invariant-loop decreases-loop
-equals-next-requires c κs = pair-within _ _ (omega (arith, c.before.before.less.ensures, c.loop-test.true))
+equals-next-requires : tie.Need-equals_next-requires invariant-loop decreases-loop
+equals-next-requires c κs = pair-within _ _ (omega (arith, c.before.before.less-pairs.ensures, c.loop-i-test.true))
 
-returns : tie.Need-returns invariant-loop decreases-loop
+returns : tie.Need-returns-then-equals_next invariant-loop decreases-loop
 unfolding neighbours_differ
 returns c =
     let t = c.before.before in
     let s = t.before.before in
-    sym (all_fails _ (P s.before.before.args.points.now) _ (omega (arith, s.less.ensures, t.loop-test.true)) (ap not (sym c.before.equals-next.ensures ∙ c.if1.true)))
+    sym (all_fails _ (P s.before.before.args.points.now) _ (omega (arith, s.less-pairs.ensures, t.loop-i-test.true)) (ap not (sym c.before.equals_next.ensures ∙ c.if-equals_next.true)))
 
-loop-again : tie.Need-loop-preserved invariant-loop decreases-loop
+loop-again : tie.Need-loop-i-preserved invariant-loop decreases-loop
 loop-again c =
     let t = c.before.before in
-    (omega arith, all_next (P t.before.before.before.before.args.points.now) _ t.before.loop.invariant.1 (ap not (sym c.before.equals-next.ensures ∙ c.if1.false)))
+    (omega arith, all_next (P t.before.before.before.before.args.points.now) _ t.before.loop-i.invariant.1 (ap not (sym c.before.equals_next.ensures ∙ c.if-equals_next.false)))
 
-returns-2 : tie.Need-returns-2 invariant-loop decreases-loop
+returns-2 : tie.Need-returns invariant-loop decreases-loop
 unfolding neighbours_differ
 returns-2 c =
     let l = c.before in
     let points = l.before.before.before.args.points.now in
-    let all : l.loop.i ≡ length points / 3 - 1 = omega (arith, l.before.less.ensures, l.loop.invariant.0, c.loop-test.false) in
-    sym (rw (← all) l.loop.invariant.1)
+    let all : l.loop-i.i ≡ length points / 3 - 1 = omega (arith, l.before.less-pairs.ensures, l.loop-i.invariant.0, c.loop-i-test.false) in
+    sym (rw (← all) l.loop-i.invariant.1)
 
-pub neighbours-differ-spec : {M : Type 1} → statement M
-neighbours-differ-spec = tie.close (tie.spec invariant-loop decreases-loop (λ c κs. tt) loop-holds equals-next-requires returns (λ c. search rules) (λ c. search rules) loop-again returns-2)
+pub neighbours_differ_spec : {M : Type 1} → statement M
+neighbours_differ_spec = tie.close (tie.spec invariant-loop decreases-loop (λ c κs. tt) loop-holds equals-next-requires returns (λ c. search rules) (λ c. search rules) loop-again returns-2)

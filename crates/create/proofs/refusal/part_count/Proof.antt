@@ -13,5 +13,5 @@ returns : tie.Need-returns
 unfolding part_count
 returns c = ap (λ (x : ℕ). x % 2 ^ 16) (one-mul (2 ^ c.args.splitdepth)) ∙ mod-eq_of_lt (lt_of_le_of_lt (pow_mono {i = c.args.splitdepth} {j = 10} c.requires) (lit< tt))
 
-pub part-count-spec : {M : Type 1} → statement M
-part-count-spec = tie.close (tie.spec (λ c. search rules) (λ c. search rules) returns)
+pub part_count_spec : {M : Type 1} → statement M
+part_count_spec = tie.close (tie.spec (λ c. search rules) (λ c. search rules) returns)

@@ -7,37 +7,37 @@ use Rattle.create.proofs.Counts.{degree-low, degree-high, degree_right}
 use Rattle.create.proofs.refusal.refusal.Statement.{statement}
 use Rattle.create.proofs.refusal.refusal.Tie as tie
 
-returns : tie.Need-returns
+returns : tie.Need-returns-then-degree-lt2
 unfolding first_of create_refusals
-returns c = rw (degree-low _ c.if1.true)
+returns c = rw (degree-low _ c.if-degree-lt2.true)
 
-returns-2 : tie.Need-returns-2
+returns-2 : tie.Need-returns-then-degree-gt3
 unfolding first_of create_refusals
-returns-2 c = rw (degree-high _ c.if2.true)
+returns-2 c = rw (degree-high _ c.if-degree-gt3.true)
 
-returns-3 : tie.Need-returns-3
+returns-3 : tie.Need-returns-then-p-gt1
 unfolding first_of create_refusals
-returns-3 c = rw (degree_right _ c.before.before.before.if1.false c.before.before.if2.false, lt-ltb _ _ c.if3.true)
+returns-3 c = rw (degree_right _ c.before.before.before.if-degree-lt2.false c.before.before.if-degree-gt3.false, lt-ltb _ _ c.if-p-gt1.true)
 
-returns-4 : tie.Need-returns-4
+returns-4 : tie.Need-returns-then-is_count_wrong
 unfolding first_of create_refusals
-returns-4 c = rw (degree_right _ c.before.before.before.before.before.if1.false c.before.before.before.before.if2.false, le-ltb _ _ c.before.before.if3.false, ← c.before.is-count-wrong.ensures, c.if4.true)
+returns-4 c = rw (degree_right _ c.before.before.before.before.before.if-degree-lt2.false c.before.before.before.before.if-degree-gt3.false, le-ltb _ _ c.before.before.if-p-gt1.false, ← c.before.is_count_wrong.ensures, c.if-is_count_wrong.true)
 
-returns-5 : tie.Need-returns-5
+returns-5 : tie.Need-returns-then-not-neighbours_differ
 unfolding first_of create_refusals
-returns-5 c = rw (degree_right _ c.before.before.before.before.before.before.before.if1.false c.before.before.before.before.before.before.if2.false, le-ltb _ _ c.before.before.before.before.if3.false, ← c.before.before.before.is-count-wrong.ensures, c.before.before.if4.false, ← c.before.neighbours_differ.ensures, c.if5.true)
+returns-5 c = rw (degree_right _ c.before.before.before.before.before.before.before.if-degree-lt2.false c.before.before.before.before.before.before.if-degree-gt3.false, le-ltb _ _ c.before.before.before.before.if-p-gt1.false, ← c.before.before.before.is_count_wrong.ensures, c.before.before.if-is_count_wrong.false, ← c.before.neighbours_differ.ensures, c.if-not-neighbours_differ.true)
 
-returns-6 : tie.Need-returns-6
+returns-6 : tie.Need-returns-then-p-ne0
 unfolding first_of create_refusals
-returns-6 c = rw (degree_right _ c.before.before.before.before.before.before.before.before.before.if1.false c.before.before.before.before.before.before.before.before.if2.false, le-ltb _ _ c.before.before.before.before.before.before.if3.false, ← c.before.before.before.before.before.is-count-wrong.ensures, c.before.before.before.before.if4.false, ← c.before.before.before.neighbours_differ.ensures, c.before.before.if5.false, ne_eqb _ _ c.if6.true)
+returns-6 c = rw (degree_right _ c.before.before.before.before.before.before.before.before.before.if-degree-lt2.false c.before.before.before.before.before.before.before.before.if-degree-gt3.false, le-ltb _ _ c.before.before.before.before.before.before.if-p-gt1.false, ← c.before.before.before.before.before.is_count_wrong.ensures, c.before.before.before.before.if-is_count_wrong.false, ← c.before.before.before.neighbours_differ.ensures, c.before.before.if-not-neighbours_differ.false, ne_eqb _ _ c.if-p-ne0.true)
 
-returns-7 : tie.Need-returns-7
+returns-7 : tie.Need-returns-then-p-gt10
 unfolding first_of create_refusals
-returns-7 c = rw (degree_right _ c.before.before.before.before.before.before.before.before.before.before.before.if1.false c.before.before.before.before.before.before.before.before.before.before.if2.false, le-ltb _ _ c.before.before.before.before.before.before.before.before.if3.false, ← c.before.before.before.before.before.before.before.is-count-wrong.ensures, c.before.before.before.before.before.before.if4.false, ← c.before.before.before.before.before.neighbours_differ.ensures, c.before.before.before.before.if5.false, eq-eqb _ _ c.before.before.if6.false, lt-ltb _ _ c.if7.true)
+returns-7 c = rw (degree_right _ c.before.before.before.before.before.before.before.before.before.before.before.if-degree-lt2.false c.before.before.before.before.before.before.before.before.before.before.if-degree-gt3.false, le-ltb _ _ c.before.before.before.before.before.before.before.before.if-p-gt1.false, ← c.before.before.before.before.before.before.before.is_count_wrong.ensures, c.before.before.before.before.before.before.if-is_count_wrong.false, ← c.before.before.before.before.before.neighbours_differ.ensures, c.before.before.before.before.if-not-neighbours_differ.false, eq-eqb _ _ c.before.before.if-p-ne0.false, lt-ltb _ _ c.if-p-gt10.true)
 
-returns-8 : tie.Need-returns-8
+returns-8 : tie.Need-returns
 unfolding first_of create_refusals
-returns-8 c = rw (degree_right _ c.before.before.before.before.before.before.before.before.before.before.before.before.if1.false c.before.before.before.before.before.before.before.before.before.before.before.if2.false, le-ltb _ _ c.before.before.before.before.before.before.before.before.before.if3.false, ← c.before.before.before.before.before.before.before.before.is-count-wrong.ensures, c.before.before.before.before.before.before.before.if4.false, ← c.before.before.before.before.before.before.neighbours_differ.ensures, c.before.before.before.before.before.if5.false, eq-eqb _ _ c.before.before.before.if6.false, le-ltb _ _ c.before.if7.false, ← c.limit-refusal.ensures)
+returns-8 c = rw (degree_right _ c.before.before.before.before.before.before.before.before.before.before.before.before.if-degree-lt2.false c.before.before.before.before.before.before.before.before.before.before.before.if-degree-gt3.false, le-ltb _ _ c.before.before.before.before.before.before.before.before.before.if-p-gt1.false, ← c.before.before.before.before.before.before.before.before.is_count_wrong.ensures, c.before.before.before.before.before.before.before.if-is_count_wrong.false, ← c.before.before.before.before.before.before.neighbours_differ.ensures, c.before.before.before.before.before.if-not-neighbours_differ.false, eq-eqb _ _ c.before.before.before.if-p-ne0.false, le-ltb _ _ c.before.if-p-gt10.false, ← c.limit_refusal.ensures)
 
-pub refusal-spec : {M : Type 1} → statement M
-refusal-spec = tie.close (tie.spec returns returns-2 returns-3 (λ c κs. search rules) returns-4 (λ c κs. tt) returns-5 returns-6 returns-7 (λ c κs. search rules) returns-8)
+pub refusal_spec : {M : Type 1} → statement M
+refusal_spec = tie.close (tie.spec returns returns-2 returns-3 (λ c κs. search rules) returns-4 (λ c κs. tt) returns-5 returns-6 returns-7 (λ c κs. search rules) returns-8)

@@ -6,7 +6,7 @@ use Rattle.curve.proofs.curve.coordinate.Tie as tie
 
 returns : tie.Need-returns
 unfolding coordinate_of
-returns c = rw (c.part.ensures, c.before.before.before.axis-from.ensures)
+returns c = rw (c.part.ensures, c.before.before.before.axis_from.ensures)
 
-pub coordinate-spec : {M : Type 1} → statement M
-coordinate-spec = tie.close (tie.spec (λ c κs. search rules) (λ c. search rules) (λ c. search rules) (λ c κs. search rules) returns)
+pub coordinate_spec : {M : Type 1} → statement M
+coordinate_spec = tie.close (tie.spec (λ c κs. search rules) (λ c. search rules) (λ c. search rules) (λ c κs. search rules) returns)

@@ -5,7 +5,7 @@ use Rattle.curve.proofs.curve.is_cubic_within.Tie as tie
 
 returns : tie.Need-returns
 unfolding cubic_within
-returns c = rw (c.is-point-within4.ensures, c.before.is-point-within3.ensures, c.before.before.is-point-within2.ensures, c.before.before.before.is-point-within.ensures)
+returns c = rw (c.is_point_within-4.ensures, c.before.before.is_point_within-3.ensures, c.before.before.before.before.is_point_within-2.ensures, c.before.before.before.before.before.before.is_point_within.ensures)
 
-pub is-cubic-within-spec : {M : Type 1} → statement M
-is-cubic-within-spec = tie.close (tie.spec (λ c κs. tt) (λ c κs. tt) (λ c κs. tt) (λ c κs. tt) returns)
+pub is_cubic_within_spec : {M : Type 1} → statement M
+is_cubic_within_spec = tie.close (tie.spec (λ c κs. tt) (λ c κs. tt) (λ c κs. tt) (λ c κs. tt) returns)

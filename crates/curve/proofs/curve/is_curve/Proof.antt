@@ -5,13 +5,13 @@ use Rattle.curve.specs.Curve.{is_curve}
 use Rattle.curve.proofs.curve.is_curve.Statement.{statement}
 use Rattle.curve.proofs.curve.is_curve.Tie as tie
 
-returns : tie.Need-returns
+returns : tie.Need-returns-then-s-eq-FLOATS
 unfolding is_curve
-returns c = rw (eq-eqb _ _ c.before.before.if1.true, ← c.before.curve-from.ensures, ← c.is-in-limits.ensures)
+returns c = rw (eq-eqb _ _ c.before.before.if-s-eq-FLOATS.true, ← c.before.curve_from.ensures, ← c.is_in_limits.ensures)
 
-returns-2 : tie.Need-returns-2
+returns-2 : tie.Need-returns-else-s-eq-FLOATS
 unfolding is_curve
-returns-2 c = rw (ne_eqb _ _ c.if1.false)
+returns-2 c = rw (ne_eqb _ _ c.if-s-eq-FLOATS.false)
 
-pub is-curve-spec : {M : Type 1} → statement M
-is-curve-spec = tie.close (tie.spec (λ c κs. search rules) (λ c κs. tt) returns returns-2)
+pub is_curve_spec : {M : Type 1} → statement M
+is_curve_spec = tie.close (tie.spec (λ c κs. search rules) (λ c κs. tt) returns returns-2)

@@ -6,7 +6,7 @@ use Rattle.curve.proofs.curve.is_in_limits.Tie as tie
 
 returns : tie.Need-returns
 unfolding in_limits
-returns c = rw (c.before.before.before.is-width-within2.ensures, c.before.before.before.before.is-width-within.ensures, c.before.before.before.before.before.is-cubic-within.ensures)
+returns c = rw (c.before.before.before.is_width_within-2.ensures, c.before.before.before.before.is_width_within.ensures, c.before.before.before.before.before.is_cubic_within.ensures)
 
-pub is-in-limits-spec : {M : Type 1} → statement M
-is-in-limits-spec = tie.close (tie.spec (λ c κs. tt) (λ c κs. search rules) (λ c κs. search rules) returns)
+pub is_in_limits_spec : {M : Type 1} → statement M
+is_in_limits_spec = tie.close (tie.spec (λ c κs. tt) (λ c κs. search rules) (λ c κs. search rules) returns)

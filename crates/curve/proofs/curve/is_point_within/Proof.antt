@@ -6,7 +6,7 @@ use Rattle.curve.proofs.curve.is_point_within.Tie as tie
 
 returns : tie.Need-returns
 unfolding point_within
-returns c = rw (c.is-within3.ensures, c.before.is-within2.ensures, c.before.before.is_Within.ensures)
+returns c = rw (c.is_within-3.ensures, c.before.is_within-2.ensures, c.before.before.is_within.ensures)
 
-pub is-point-within-spec : {M : Type 1} → statement M
-is-point-within-spec = tie.close (tie.spec (λ c κs. search rules) (λ c κs. search rules) (λ c κs. search rules) returns)
+pub is_point_within_spec : {M : Type 1} → statement M
+is_point_within_spec = tie.close (tie.spec (λ c κs. search rules) (λ c κs. search rules) (λ c κs. search rules) returns)

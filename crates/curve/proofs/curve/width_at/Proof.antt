@@ -9,5 +9,5 @@ returns : tie.Need-returns
 unfolding width_at curve_from
 returns c = rw c.lerp.ensures
 
-pub width-at-spec : {M : Type 1} → statement M
-width-at-spec = tie.close (tie.spec (λ c. search rules) (λ c. search rules) (λ c κs. search rules) returns)
+pub width_at_spec : {M : Type 1} → statement M
+width_at_spec = tie.close (tie.spec (λ c. search rules) (λ c. search rules) (λ c κs. search rules) returns)

@@ -6,7 +6,7 @@ use Rattle.curve.proofs.layout.cubic_from.Tie as tie
 
 returns : tie.Need-returns
 unfolding cubic_from
-returns c = rw (c.point-from4.ensures, c.before.point-from3.ensures, c.before.before.point-from2.ensures, c.before.before.before.point-from.ensures)
+returns c = rw (c.point_from-4.ensures, c.before.point_from-3.ensures, c.before.before.point_from-2.ensures, c.before.before.before.point_from.ensures)
 
-pub cubic-from-spec : {M : Type 1} → statement M
-cubic-from-spec = tie.close (tie.spec (λ c κs. search rules) (λ c κs. search rules) (λ c κs. search rules) (λ c κs. search rules) returns)
+pub cubic_from_spec : {M : Type 1} → statement M
+cubic_from_spec = tie.close (tie.spec (λ c κs. search rules) (λ c κs. search rules) (λ c κs. search rules) (λ c κs. search rules) returns)

@@ -8,5 +8,5 @@ returns : tie.Need-returns
 unfolding curve_floats
 returns c = refl
 
-pub curve-floats-spec : {M : Type 1} → statement M
-curve-floats-spec = tie.close (tie.spec returns)
+pub curve_floats_spec : {M : Type 1} → statement M
+curve_floats_spec = tie.close (tie.spec returns)

@@ -6,7 +6,7 @@ use Rattle.curve.proofs.layout.curve_from.Tie as tie
 
 returns : tie.Need-returns
 unfolding curve_from
-returns c = rw c.before.before.before.before.cubic-from.ensures
+returns c = rw c.before.before.before.before.cubic_from.ensures
 
-pub curve-from-spec : {M : Type 1} → statement M
-curve-from-spec = tie.close (tie.spec (λ c κs. search rules) (λ c. search rules) (λ c. search rules) (λ c. search rules) (λ c. search rules) returns)
+pub curve_from_spec : {M : Type 1} → statement M
+curve_from_spec = tie.close (tie.spec (λ c κs. search rules) (λ c. search rules) (λ c. search rules) (λ c. search rules) (λ c. search rules) returns)

@@ -5,7 +5,7 @@ use Rattle.curve.proofs.layout.points_from.Statement.{statement}
 use Rattle.curve.proofs.layout.points_from.Tie as tie
 
 returns : tie.Need-returns
-returns c = rw (c.points-by.ensures, c.before.before.axis-from3.ensures, c.before.before.before.axis-from2.ensures, c.before.before.before.before.axis-from.ensures) (segment_by_axes _)
+returns c = rw (c.points_by.ensures, c.before.before.axis_from-3.ensures, c.before.before.before.axis_from-2.ensures, c.before.before.before.before.axis_from.ensures) (segment_by_axes _)
 
-pub points-from-spec : {M : Type 1} → statement M
-points-from-spec = tie.close (tie.spec (λ c κs. search rules) (λ c κs. search rules) (λ c κs. search rules) (λ c κs. search rules) (λ c κs. search rules) returns)
+pub points_from_spec : {M : Type 1} → statement M
+points_from_spec = tie.close (tie.spec (λ c κs. search rules) (λ c κs. search rules) (λ c κs. search rules) (λ c κs. search rules) (λ c κs. search rules) returns)

@@ -6,7 +6,7 @@ use Rattle.curve_c.proofs.sets.curve_set_remove.Tie as tie
 returns : tie.Need-returns
 returns c =
     let made = c.before.remove.ensures in
-    (rw (c.number_of_lem.ensures, made.0), made.1)
+    (rw (c.number_of.ensures, made.0), made.1)
 
 pub curve-set-remove-spec : {M : Type 1} → statement M
 curve-set-remove-spec = tie.close (tie.spec (λ c κs. search rules) (λ c κs. tt) returns)

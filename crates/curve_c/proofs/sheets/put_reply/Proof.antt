@@ -19,7 +19,7 @@ returns : tie.Need-returns
 returns c =
     let s = c.before.before.before.before.before in
     let e = sym c.before.before.before.reply.given.1 in
-    (ap reply_number e, (ap (λ (x : Reply). beams_after x s.args.rays s.args.beams.now) e, rw (← e, c.before.number_of_lem.ensures)))
+    (ap reply_number e, (ap (λ (x : Reply). beams_after x s.args.rays s.args.beams.now) e, rw (← e, c.before.number_of.ensures)))
 
 returns-2 : tie.Need-returns-2
 returns-2 c =

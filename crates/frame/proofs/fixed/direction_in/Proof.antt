@@ -6,7 +6,7 @@ use Rattle.frame.proofs.fixed.direction_in.Tie as tie
 
 returns : tie.Need-returns
 unfolding view_from
-returns c = rw c.vector-from.ensures
+returns c = rw c.vector_from.ensures
 
-pub direction-in-spec : {M : Type 1} → statement M
-direction-in-spec = tie.close (tie.spec (λ c κs. search rules) returns)
+pub direction_in_spec : {M : Type 1} → statement M
+direction_in_spec = tie.close (tie.spec (λ c κs. search rules) returns)

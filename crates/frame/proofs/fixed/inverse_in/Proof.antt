@@ -6,7 +6,7 @@ use Rattle.frame.proofs.fixed.inverse_in.Tie as tie
 
 returns : tie.Need-returns
 unfolding view_from
-returns c = rw c.matrix-from.ensures
+returns c = rw c.matrix_from.ensures
 
-pub inverse-in-spec : {M : Type 1} → statement M
-inverse-in-spec = tie.close (tie.spec (λ c κs. search rules) returns)
+pub inverse_in_spec : {M : Type 1} → statement M
+inverse_in_spec = tie.close (tie.spec (λ c κs. search rules) returns)

@@ -6,7 +6,7 @@ use Rattle.frame.proofs.fixed.matrix_in.Tie as tie
 
 returns : tie.Need-returns
 unfolding view_from
-returns c = rw c.matrix-from.ensures
+returns c = rw c.matrix_from.ensures
 
-pub matrix-in-spec : {M : Type 1} → statement M
-matrix-in-spec = tie.close (tie.spec (λ c κs. search rules) returns)
+pub matrix_in_spec : {M : Type 1} → statement M
+matrix_in_spec = tie.close (tie.spec (λ c κs. search rules) returns)

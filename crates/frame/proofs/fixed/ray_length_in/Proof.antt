@@ -9,5 +9,5 @@ returns : tie.Need-returns
 unfolding view_from
 returns c = refl
 
-pub ray-length-in-spec : {M : Type 1} → statement M
-ray-length-in-spec = tie.close (tie.spec (λ c. search rules) returns)
+pub ray_length_in_spec : {M : Type 1} → statement M
+ray_length_in_spec = tie.close (tie.spec (λ c. search rules) returns)

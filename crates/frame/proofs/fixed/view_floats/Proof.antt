@@ -9,5 +9,5 @@ returns : tie.Need-returns
 unfolding view_floats flat
 returns c = refl
 
-pub view-floats-spec : {M : Type 1} → statement M
-view-floats-spec = tie.close (tie.spec returns)
+pub view_floats_spec : {M : Type 1} → statement M
+view_floats_spec = tie.close (tie.spec returns)

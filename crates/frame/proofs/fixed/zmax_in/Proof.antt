@@ -9,5 +9,5 @@ returns : tie.Need-returns
 unfolding view_from
 returns c = refl
 
-pub zmax-in-spec : {M : Type 1} → statement M
-zmax-in-spec = tie.close (tie.spec (λ c. search rules) returns)
+pub zmax_in_spec : {M : Type 1} → statement M
+zmax_in_spec = tie.close (tie.spec (λ c. search rules) returns)

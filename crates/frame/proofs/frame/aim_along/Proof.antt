@@ -6,7 +6,7 @@ use Rattle.frame.proofs.frame.aim_along.Tie as tie
 
 returns : tie.Need-returns
 unfolding aim_of
-returns c = rw c.before.length.ensures
+returns c = rw c.before.length-ray_length.ensures
 
-pub aim-along-spec : {M : Type 1} → statement M
-aim-along-spec = tie.close (tie.spec (λ c κs. search rules) returns)
+pub aim_along_spec : {M : Type 1} → statement M
+aim_along_spec = tie.close (tie.spec (λ c κs. search rules) returns)

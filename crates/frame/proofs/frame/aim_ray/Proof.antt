@@ -4,13 +4,13 @@ use Rattle.frame.specs.Frame.{aimed_of}
 use Rattle.frame.proofs.frame.aim_ray.Statement.{statement}
 use Rattle.frame.proofs.frame.aim_ray.Tie as tie
 
-returns : tie.Need-returns
+returns : tie.Need-returns-in-Ray
 unfolding aimed_of
-returns c = rw (← c.before.before.before.before.transform-ray-error.ensures, c.before.before.transformed.given.1, ← c.aim-along.ensures)
+returns c = rw (← c.before.before.before.transform_ray_error.ensures, c.before.before.in-Ray.is, ← c.aim_along.ensures)
 
-returns-2 : tie.Need-returns-2
+returns-2 : tie.Need-returns-in-ZeroWeight
 unfolding aimed_of
-returns-2 c = rw (← c.before.before.transform-ray-error.ensures, c.enum_told.given.1)
+returns-2 c = rw (← c.before.transform_ray_error.ensures, c.in-ZeroWeight.is)
 
-pub aim-ray-spec : {M : Type 1} → statement M
-aim-ray-spec = tie.close (tie.spec (λ c κs. search rules) (λ c. search rules) (λ c κs. tt) (λ c. search rules) returns returns-2)
+pub aim_ray_spec : {M : Type 1} → statement M
+aim_ray_spec = tie.close (tie.spec (λ c κs. search rules) (λ c. search rules) (λ c κs. tt) (λ c. search rules) returns returns-2)

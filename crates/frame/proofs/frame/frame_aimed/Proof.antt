@@ -6,7 +6,7 @@ use Rattle.frame.proofs.frame.frame_aimed.Tie as tie
 
 returns : tie.Need-returns
 unfolding framed_along
-returns c = rw (c.frame-points.ensures, c.before.cubic-in.ensures, c.before.before.before.control-points.ensures)
+returns c = rw (c.frame_points.ensures, c.before.cubic_in.ensures, c.before.before.before.control_points.ensures)
 
-pub frame-aimed-spec : {M : Type 1} → statement M
-frame-aimed-spec = tie.close (tie.spec (λ c κs. search rules) (λ c κs. search rules) (λ c κs. tt) returns)
+pub frame_aimed_spec : {M : Type 1} → statement M
+frame_aimed_spec = tie.close (tie.spec (λ c κs. search rules) (λ c κs. search rules) (λ c κs. tt) returns)

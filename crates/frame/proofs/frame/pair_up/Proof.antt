@@ -4,17 +4,17 @@ use Rattle.frame.specs.Frame.{pair_of}
 use Rattle.frame.proofs.frame.pair_up.Statement.{statement}
 use Rattle.frame.proofs.frame.pair_up.Tie as tie
 
-returns : tie.Need-returns
+returns : tie.Need-returns-in-Point-b
 unfolding pair_of
-returns c = rw (c.before.before.before.before.a.given.1, c.before.b.given.1)
+returns c = rw (c.before.in-Point.is, c.in-Point-b.is)
 
-returns-2 : tie.Need-returns-2
+returns-2 : tie.Need-returns-in-ZeroWeight-b
 unfolding pair_of
-returns-2 c = rw (c.before.before.before.a.given.1, c.enum_told.given.1)
+returns-2 c = rw (c.before.in-Point.is, c.in-ZeroWeight-b.is)
 
-returns-3 : tie.Need-returns-3
+returns-3 : tie.Need-returns-in-ZeroWeight
 unfolding pair_of
-returns-3 c = rw c.enum-told2.given.1
+returns-3 c = rw c.in-ZeroWeight.is
 
-pub pair-up-spec : {M : Type 1} → statement M
-pair-up-spec = tie.close (tie.spec (λ c. search rules) (λ c. search rules) (λ c. search rules) (λ c. search rules) returns returns-2 returns-3)
+pub pair_up_spec : {M : Type 1} → statement M
+pair_up_spec = tie.close (tie.spec (λ c. search rules) (λ c. search rules) (λ c. search rules) (λ c. search rules) returns returns-2 returns-3)

@@ -6,7 +6,7 @@ use Rattle.frame.proofs.frame.project.Tie as tie
 
 returns : tie.Need-returns
 unfolding projected_cubic
-returns c = rw (c.join.ensures, c.before.pair-up2.ensures, c.before.before.pair-up.ensures, c.before.before.before.transform-point4.ensures, c.before.before.before.before.transform-point3.ensures, c.before.before.before.before.before.transform-point2.ensures, c.before.before.before.before.before.before.transform-point.ensures)
+returns c = rw (c.join.ensures, c.before.pair_up-2.ensures, c.before.before.pair_up.ensures, c.before.before.before.transform_point-p3.ensures, c.before.before.before.before.before.transform_point-p2.ensures, c.before.before.before.before.before.before.before.transform_point-p1.ensures, c.before.before.before.before.before.before.before.before.before.transform_point-p0.ensures)
 
-pub project-spec : {M : Type 1} → statement M
-project-spec = tie.close (tie.spec (λ c κs. search rules) (λ c κs. search rules) (λ c κs. search rules) (λ c κs. search rules) (λ c κs. tt) (λ c κs. tt) (λ c κs. tt) returns)
+pub project_spec : {M : Type 1} → statement M
+project_spec = tie.close (tie.spec (λ c κs. search rules) (λ c κs. search rules) (λ c κs. search rules) (λ c κs. search rules) (λ c κs. tt) (λ c κs. tt) (λ c κs. tt) returns)

@@ -8,5 +8,5 @@ returns : tie.Need-returns
 unfolding view_of
 returns c = refl
 
-pub view-of-spec : {M : Type 1} → statement M
-view-of-spec = tie.close (tie.spec returns)
+pub view_of_spec : {M : Type 1} → statement M
+view_of_spec = tie.close (tie.spec returns)

@@ -20,15 +20,15 @@ add-t18 c = record { fits = omega (arith, small c) }
 
 returns : tie.Need-returns
 unfolding decimal_at
-returns c = rw (← c.before.before.before.before.digit_at.ensures, ← c.before.before.before.digit-at2.ensures, ← c.before.before.is_byte_lem.ensures, ← c.before.is-byte2.ensures, c.if1.true)
+returns c = rw (← c.before.before.before.before.digit_at.ensures, ← c.before.before.before.digit-at2.ensures, ← c.before.before.is_byte.ensures, ← c.before.is-byte2.ensures, c.if1.true)
 
 returns-2 : tie.Need-returns-2
 unfolding decimal_at
-returns-2 c = rw (← c.before.before.before.before.before.digit_at.ensures, ← c.before.before.before.before.digit-at2.ensures, ← c.before.before.before.is_byte_lem.ensures, ← c.before.before.is-byte2.ensures, c.before.if1.false, c.if2.true)
+returns-2 c = rw (← c.before.before.before.before.before.digit_at.ensures, ← c.before.before.before.before.digit-at2.ensures, ← c.before.before.before.is_byte.ensures, ← c.before.before.is-byte2.ensures, c.before.if1.false, c.if2.true)
 
 returns-3 : tie.Need-returns-3
 unfolding decimal_at
-returns-3 c = rw (← c.before.before.before.before.before.digit_at.ensures, ← c.before.before.before.before.digit-at2.ensures, ← c.before.before.before.is_byte_lem.ensures, ← c.before.before.is-byte2.ensures, c.before.if1.false, c.if2.false)
+returns-3 c = rw (← c.before.before.before.before.before.digit_at.ensures, ← c.before.before.before.before.digit-at2.ensures, ← c.before.before.before.is_byte.ensures, ← c.before.before.is-byte2.ensures, c.before.if1.false, c.if2.false)
 
 pub decimal-at-spec : {M : Type 1} → statement M
 decimal-at-spec = tie.close (tie.spec (λ c κs. tt) (λ c. search rules) (λ c κs. tt) (λ c. search rules) (λ c κs. tt) (λ c. search rules) (λ c κs. tt) (λ c. search rules) mul-t17 add-t18 (λ c. search rules) returns returns-2 returns-3)

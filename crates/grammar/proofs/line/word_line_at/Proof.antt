@@ -7,11 +7,11 @@ use Rattle.grammar.proofs.line.word_line_at.Tie as tie
 
 returns : tie.Need-returns
 unfolding word_line_at
-returns c = rw (← c.before.before.before.is_IsWord.ensures, ← c.before.before.is_byte_lem.ensures, c.before.if1.true, ← c.word_at.ensures)
+returns c = rw (← c.before.before.before.is_word.ensures, ← c.before.before.is_byte.ensures, c.before.if1.true, ← c.word_at.ensures)
 
 returns-2 : tie.Need-returns-2
 unfolding word_line_at
-returns-2 c = rw (← c.before.before.is_IsWord.ensures, ← c.before.is_byte_lem.ensures, c.if1.false)
+returns-2 c = rw (← c.before.before.is_word.ensures, ← c.before.is_byte.ensures, c.if1.false)
 
 pub word-line-at-spec : {M : Type 1} → statement M
 word-line-at-spec = tie.close (tie.spec (λ c κs. search rules) (λ c. search rules) (λ c κs. tt) (λ c κs. search rules) (λ c. search rules) returns returns-2)

@@ -40,7 +40,7 @@ loop-again c =
     let s = l.before.before in (
       omega (arith, t.loop-test.true),
       all_next (P s.args.s.now s.args.at s.args.n) l.loop.i l.loop.invariant.1
-          (tested _ _ _ _ _ _ _ b.before.before.is_IsWord.ensures b.is_byte_lem.ensures b.before.separator-of.ensures ∙ not-false _ c.if1.false),
+          (tested _ _ _ _ _ _ _ b.before.before.is_word.ensures b.is_byte.ensures b.before.separator-of.ensures ∙ not-false _ c.if1.false),
     )
 
 returns : tie.Need-returns invariant-loop decreases-loop
@@ -52,7 +52,7 @@ returns c =
     let s = l.before.before in
     sym
     (all_fails s.args.n (P s.args.s.now s.args.at s.args.n) l.loop.i t.loop-test.true
-    (tested _ _ _ _ _ _ _ b.before.before.is_IsWord.ensures b.is_byte_lem.ensures b.before.separator-of.ensures ∙ not-true _ c.if1.true))
+    (tested _ _ _ _ _ _ _ b.before.before.is_word.ensures b.is_byte.ensures b.before.separator-of.ensures ∙ not-true _ c.if1.true))
 
 returns-2 : tie.Need-returns-2 invariant-loop decreases-loop
 unfolding is_floats

@@ -11,7 +11,7 @@ returns c = rw (← c.before.before.before.before.before.cubic-in.ensures, ← c
 
 returns-2 : tie.Need-returns-2
 unfolding crossing_of subcurve_in
-returns-2 c = rw (c.cross_at.ensures, c.before.line_at_lem.ensures, ← c.before.before.before.before.before.before.before.cubic-in.ensures, ← c.before.before.before.before.before.before.segment-dir.ensures, ← c.before.before.before.before.before.length-squared.ensures, ← c.before.before.before.before.edge-start.ensures, ← c.before.before.before.edge-end.ensures, c.before.before.if1.false)
+returns-2 c = rw (c.cross_at.ensures, c.before.line_at.ensures, ← c.before.before.before.before.before.before.before.cubic-in.ensures, ← c.before.before.before.before.before.before.segment-dir.ensures, ← c.before.before.before.before.before.length-squared.ensures, ← c.before.before.before.before.edge-start.ensures, ← c.before.before.before.edge-end.ensures, c.before.before.if1.false)
 
 pub cross-leaf-spec : {M : Type 1} → statement M
 cross-leaf-spec = tie.close (tie.spec (λ c κs. tt) (λ c κs. tt) (λ c κs. search rules) (λ c κs. tt) (λ c κs. tt) (λ c κs. tt) (λ c κs. search rules) returns returns-2)

@@ -9,5 +9,5 @@ returns : tie.Need-returns
 unfolding identity
 returns c = refl
 
-pub default-spec : {M : Type 1} → statement M
-default-spec = tie.close (tie.spec returns)
+pub default_spec : {M : Type 1} → statement M
+default_spec = tie.close (tie.spec returns)

@@ -5,7 +5,7 @@ use Rattle.matrix.proofs.Matrix4x4.inverse.Tie as tie
 
 returns : tie.Need-returns
 unfolding inverse_of
-returns c = rw (c.matrix-of.ensures, c.before.before.invert.ensures, c.before.before.before.before.flatten.ensures)
+returns c = rw (c.matrix_of.ensures, c.before.before.invert.ensures, c.before.before.before.before.flatten-v.ensures)
 
-pub inverse-spec : {M : Type 1} → statement M
-inverse-spec = tie.close (tie.spec (λ c κs. tt) (λ c κs. tt) (λ c κs. tt) returns)
+pub inverse_spec : {M : Type 1} → statement M
+inverse_spec = tie.close (tie.spec (λ c κs. tt) (λ c κs. tt) (λ c κs. tt) returns)

@@ -7,7 +7,7 @@ use Rattle.measure.proofs.areas.mean_width.Tie as tie
 
 returns : tie.Need-returns
 unfolding mean_width curve_from
-returns c = rw (c.width-at2.ensures, c.before.before.width-at.ensures)
+returns c = rw (c.width_at-2.ensures, c.before.before.width_at.ensures)
 
-pub mean-width-spec : {M : Type 1} → statement M
-mean-width-spec = tie.close (tie.spec (λ c. search rules) (λ c κs. search rules) (λ c. search rules) (λ c κs. search rules) returns)
+pub mean_width_spec : {M : Type 1} → statement M
+mean_width_spec = tie.close (tie.spec (λ c. search rules) (λ c κs. search rules) (λ c. search rules) (λ c κs. search rules) returns)

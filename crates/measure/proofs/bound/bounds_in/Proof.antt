@@ -6,7 +6,7 @@ use Rattle.measure.proofs.bound.bounds_in.Tie as tie
 
 returns : tie.Need-returns
 unfolding bounds_in
-returns c = rw (c.point-from2.ensures, c.before.before.point-from.ensures)
+returns c = rw (c.point_from-2.ensures, c.before.before.point_from.ensures)
 
-pub bounds-in-spec : {M : Type 1} → statement M
-bounds-in-spec = tie.close (tie.spec (λ c κs. search rules) (λ c κs. search rules) returns)
+pub bounds_in_spec : {M : Type 1} → statement M
+bounds_in_spec = tie.close (tie.spec (λ c κs. search rules) (λ c κs. search rules) returns)

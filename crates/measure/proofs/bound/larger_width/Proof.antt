@@ -7,7 +7,7 @@ use Rattle.measure.proofs.bound.larger_width.Tie as tie
 
 returns : tie.Need-returns
 unfolding larger_width curve_from
-returns c = rw (c.max.ensures, c.before.width-at2.ensures, c.before.before.before.width-at.ensures)
+returns c = rw (c.max.ensures, c.before.width_at-2.ensures, c.before.before.before.width_at.ensures)
 
-pub larger-width-spec : {M : Type 1} → statement M
-larger-width-spec = tie.close (tie.spec (λ c. search rules) (λ c κs. search rules) (λ c. search rules) (λ c κs. search rules) (λ c κs. search rules) returns)
+pub larger_width_spec : {M : Type 1} → statement M
+larger_width_spec = tie.close (tie.spec (λ c. search rules) (λ c κs. search rules) (λ c. search rules) (λ c κs. search rules) (λ c κs. search rules) returns)

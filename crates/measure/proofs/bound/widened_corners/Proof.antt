@@ -10,8 +10,8 @@ use Rattle.measure.proofs.bound.widened_corners.Tie as tie
 returns : tie.Need-returns
 unfolding bounds_in widened expanded point_from moved moved_back lower_in upper_in
 returns c =
-    let corners = c.before.before.before.before.before.before.before.before.corners-of.ensures in
+    let corners = c.before.before.before.before.before.before.before.before.corners_of-c.ensures in
     rw (← passes_are_the_union _, ← corners.0, ← corners.1)
 
-pub widened-corners-spec : {M : Type 1} → statement M
-widened-corners-spec = tie.close (tie.spec (λ c κs. tt) returns)
+pub widened_corners_spec : {M : Type 1} → statement M
+widened_corners_spec = tie.close (tie.spec (λ c κs. tt) returns)

@@ -34,18 +34,18 @@ taken-held (some z) = go (nat_abs z) (ltb (nat_abs z) (2 ^ 32)) (ltb-false (nat_
         over : (n : ℕ) → 2 ^ 32 ≤ n → most_cents < n
         over n l = omega arith
 
-priced-is : (c : tie.After-round-product) → taken c.round-product.result ≡ price_of c.before.args.area c.before.args.rate
+priced-is : (c : tie.After-round_product) → taken c.round_product.result ≡ price_of c.before.args.area c.before.args.rate
 unfolding price_of product_of
-priced-is c = ap taken c.round-product.ensures ∙ taken-held (whole_of Up c.before.args.rate c.before.args.area)
+priced-is c = ap taken c.round_product.ensures ∙ taken-held (whole_of Up c.before.args.rate c.before.args.area)
 
-returns : tie.Need-returns
-returns c = rw (← priced-is c.before.before.before.before, c.before.before.cents.given.1, lt-ltb _ _ c.if1.true)
+returns : tie.Need-returns-then-cents-gt-MOST_CENTS
+returns c = rw (← priced-is c.before.before, c.before.in-Whole.is, lt-ltb _ _ c.if-cents-gt-MOST_CENTS.true)
 
-returns-2 : tie.Need-returns-2
-returns-2 c = rw (← priced-is c.before.before.before.before, c.before.before.cents.given.1, le-ltb _ _ c.if1.false)
+returns-2 : tie.Need-returns-else-cents-gt-MOST_CENTS
+returns-2 c = rw (← priced-is c.before.before, c.before.in-Whole.is, le-ltb _ _ c.if-cents-gt-MOST_CENTS.false)
 
-returns-3 : tie.Need-returns-3
-returns-3 c = rw (← priced-is c.before.before, c.enum_told.given.1)
+returns-3 : tie.Need-returns-in-Beyond
+returns-3 c = rw (← priced-is c.before, c.in-Beyond.is)
 
-pub price-of-spec : {M : Type 1} → statement M
-price-of-spec = tie.close (tie.spec (λ c κs. search rules) (λ c. search rules) (λ c. search rules) returns returns-2 returns-3)
+pub price_of_spec : {M : Type 1} → statement M
+price_of_spec = tie.close (tie.spec (λ c κs. search rules) (λ c. search rules) (λ c. search rules) returns returns-2 returns-3)

@@ -4,13 +4,13 @@ use Rattle.overlap.specs.Depth.{exponent_of}
 use Rattle.overlap.proofs.depth.exponent.Statement.{statement}
 use Rattle.overlap.proofs.depth.exponent.Tie as tie
 
-returns : tie.Need-returns
+returns : tie.Need-returns-then-field-lt127
 unfolding exponent_of
 returns c = omega arith
 
-returns-2 : tie.Need-returns-2
+returns-2 : tie.Need-returns-else-field-lt127
 unfolding exponent_of
 returns-2 c = omega arith
 
-pub exponent-spec : {M : Type 1} → statement M
-exponent-spec = tie.close (tie.spec returns returns-2)
+pub exponent_spec : {M : Type 1} → statement M
+exponent_spec = tie.close (tie.spec returns returns-2)

@@ -7,7 +7,7 @@ use Rattle.overlap.proofs.depth.flatness_ratio.Tie as tie
 
 returns : tie.Need-returns
 unfolding flatness curve_from
-returns c = rw (c.largest-second-difference.ensures, c.before.max.ensures)
+returns c = rw (c.largest_second_difference.ensures, c.before.max-eps.ensures)
 
-pub flatness-ratio-spec : {M : Type 1} → statement M
-flatness-ratio-spec = tie.close (tie.spec (λ c. search rules) (λ c. search rules) (λ c κs. search rules) (λ c κs. tt) returns)
+pub flatness_ratio_spec : {M : Type 1} → statement M
+flatness_ratio_spec = tie.close (tie.spec (λ c. search rules) (λ c. search rules) (λ c κs. search rules) (λ c κs. tt) returns)

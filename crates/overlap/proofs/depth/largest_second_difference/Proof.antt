@@ -12,15 +12,15 @@ zero_number : is_nan 0f ≡ false
 unfolding is_nan of_bits
 zero_number = refl
 
-max-of-number-requires : tie.Need-max-of-number-requires
+max-of-number-requires : tie.Need-max_of_number-first-requires
 max-of-number-requires c κs = zero_number
 
-max-of-number-requires-2 : tie.Need-max-of-number-requires-2
-max-of-number-requires-2 c κs = rw c.before.max-of-number.ensures (max-number _ _ zero_number)
+max-of-number-requires-2 : tie.Need-max_of_number-requires
+max-of-number-requires-2 c κs = rw c.before.before.before.before.max_of_number-first.ensures (max-number _ _ zero_number)
 
 returns : tie.Need-returns
 unfolding greatest_bend
-returns c = rw (c.max-of-number2.ensures, c.before.largest-of2.ensures, c.before.before.max-of-number.ensures, c.before.before.before.largest-of.ensures)
+returns c = rw (c.max_of_number.ensures, c.before.largest_of-2.ensures, c.before.before.before.before.before.max_of_number-first.ensures, c.before.before.before.before.before.before.largest_of.ensures)
 
-pub largest-second-difference-spec : {M : Type 1} → statement M
-largest-second-difference-spec = tie.close (tie.spec (λ c κs. tt) max-of-number-requires (λ c κs. tt) max-of-number-requires-2 returns)
+pub largest_second_difference_spec : {M : Type 1} → statement M
+largest_second_difference_spec = tie.close (tie.spec (λ c κs. tt) max-of-number-requires (λ c κs. tt) max-of-number-requires-2 returns)

@@ -4,17 +4,17 @@ use Rattle.overlap.specs.Depth.{exponent_of, log_of}
 use Rattle.overlap.proofs.depth.log2.Statement.{statement}
 use Rattle.overlap.proofs.depth.log2.Tie as tie
 
-add_result_lem : tie.Need-overflow-add-result
+add_result_lem : tie.Need-overflow_add-result
 unfolding exponent_of
 add_result_lem c = record { fits = omega (arith, c.exponent.ensures) }
 
-returns : tie.Need-returns
+returns : tie.Need-returns-then-v
 unfolding log_of
-returns c = rw c.if1.true
+returns c = rw c.if-v.true
 
-returns-2 : tie.Need-returns-2
+returns-2 : tie.Need-returns-else-v
 unfolding log_of
-returns-2 c = rw (c.before.before.if1.false, ← c.before.to-bits.ensures, ← c.exponent.ensures)
+returns-2 c = rw (c.before.before.if-v.false, ← c.before.to_bits-bits.ensures, ← c.exponent.ensures)
 
-pub log2-spec : {M : Type 1} → statement M
-log2-spec = tie.close (tie.spec (λ c κs. tt) (λ c κs. tt) add_result_lem returns returns-2)
+pub log2_spec : {M : Type 1} → statement M
+log2_spec = tie.close (tie.spec (λ c κs. tt) (λ c κs. tt) add_result_lem returns returns-2)

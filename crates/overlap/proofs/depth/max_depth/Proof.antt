@@ -6,7 +6,7 @@ use Rattle.overlap.proofs.depth.max_depth.Tie as tie
 
 returns : tie.Need-returns
 unfolding depth_of
-returns c = rw (c.depth-at.ensures, c.before.flatness-ratio.ensures)
+returns c = rw (c.depth_at.ensures, c.before.flatness_ratio.ensures)
 
-pub max-depth-spec : {M : Type 1} → statement M
-max-depth-spec = tie.close (tie.spec (λ c κs. search rules) (λ c κs. tt) returns)
+pub max_depth_spec : {M : Type 1} → statement M
+max_depth_spec = tie.close (tie.spec (λ c κs. search rules) (λ c κs. tt) returns)

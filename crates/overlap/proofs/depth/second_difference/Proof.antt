@@ -8,5 +8,5 @@ returns : tie.Need-returns
 unfolding bend
 returns c = rw c.abs.ensures
 
-pub second-difference-spec : {M : Type 1} → statement M
-second-difference-spec = tie.close (tie.spec (λ c κs. search rules) returns)
+pub second_difference_spec : {M : Type 1} → statement M
+second_difference_spec = tie.close (tie.spec (λ c κs. search rules) returns)

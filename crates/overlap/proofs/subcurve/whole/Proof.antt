@@ -10,5 +10,5 @@ returns : tie.Need-returns
 unfolding whole_of curve_from
 returns c = refl
 
-pub whole-spec : {M : Type 1} → statement M
-whole-spec = tie.close (tie.spec (λ c. search rules) (λ c. search rules) returns)
+pub whole_spec : {M : Type 1} → statement M
+whole_spec = tie.close (tie.spec (λ c. search rules) (λ c. search rules) returns)

@@ -6,7 +6,7 @@ use Rattle.overlap.proofs.thrown.half_width.Tie as tie
 
 returns : tie.Need-returns
 unfolding half_width
-returns c = rw (c.max.ensures, c.before.width-at2.ensures, c.before.before.width-at.ensures)
+returns c = rw (c.max.ensures, c.before.width_at-2.ensures, c.before.before.width_at.ensures)
 
-pub half-width-spec : {M : Type 1} → statement M
-half-width-spec = tie.close (tie.spec (λ c κs. search rules) (λ c κs. search rules) (λ c κs. search rules) returns)
+pub half_width_spec : {M : Type 1} → statement M
+half_width_spec = tie.close (tie.spec (λ c κs. search rules) (λ c κs. search rules) (λ c κs. search rules) returns)

@@ -6,8 +6,8 @@ use Rattle.overlap.proofs.thrown.is_off_z_whole.Tie as tie
 returns : tie.Need-returns
 unfolding is_off_z_whole
 returns c =
-    let e = c.before.before.extent-of.ensures in
+    let e = c.before.before.extent_of-e.ensures in
     rw (e.0, e.1)
 
-pub is-off-z-whole-spec : {M : Type 1} → statement M
-is-off-z-whole-spec = tie.close (tie.spec (λ c κs. tt) returns)
+pub is_off_z_whole_spec : {M : Type 1} → statement M
+is_off_z_whole_spec = tie.close (tie.spec (λ c κs. tt) returns)

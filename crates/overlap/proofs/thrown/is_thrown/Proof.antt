@@ -6,17 +6,17 @@ use Rattle.overlap.specs.Thrown.{is_off_y, is_off_x, is_off_z, is_thrown_by}
 use Rattle.overlap.proofs.thrown.is_thrown.Statement.{statement}
 use Rattle.overlap.proofs.thrown.is_thrown.Tie as tie
 
-returns : tie.Need-returns
+returns : tie.Need-returns-then-is_off
 unfolding is_thrown_by is_off_y is_off_x is_off_z
-returns c = rw (← axis_in_lem _ 1 (omega arith), ← c.before.before.axis-in.ensures, ← c.before.is-off.ensures, c.if1.true)
+returns c = rw (← axis_in_lem _ 1 (omega arith), ← c.before.before.axis_in.ensures, ← c.before.is_off.ensures, c.if-is_off.true)
 
-returns-2 : tie.Need-returns-2
+returns-2 : tie.Need-returns-then-is_off-2
 unfolding is_thrown_by is_off_y is_off_x is_off_z
-returns-2 c = rw (← axis_in_lem _ 1 (omega arith), ← c.before.before.before.before.before.axis-in.ensures, ← c.before.before.before.before.is-off.ensures, c.before.before.before.if1.false, ← axis_in_lem _ 0 (omega arith), ← c.before.before.axis-in2.ensures, ← c.before.is-off2.ensures, c.if2.true)
+returns-2 c = rw (← axis_in_lem _ 1 (omega arith), ← c.before.before.before.before.before.axis_in.ensures, ← c.before.before.before.before.is_off.ensures, c.before.before.before.if-is_off.false, ← axis_in_lem _ 0 (omega arith), ← c.before.before.axis_in-else-is_off.ensures, ← c.before.is_off-else-is_off.ensures, c.if-is_off-2.true)
 
-returns-3 : tie.Need-returns-3
+returns-3 : tie.Need-returns-else-is_off-2
 unfolding is_thrown_by is_off_y is_off_x is_off_z
-returns-3 c = rw (← axis_in_lem _ 1 (omega arith), ← c.before.before.before.before.before.before.before.axis-in.ensures, ← c.before.before.before.before.before.before.is-off.ensures, c.before.before.before.before.before.if1.false, ← axis_in_lem _ 0 (omega arith), ← c.before.before.before.before.axis-in2.ensures, ← c.before.before.before.is-off2.ensures, c.before.before.if2.false, ← axis_in_lem _ 2 (omega arith), ← c.before.axis-in3.ensures, ← c.is-off3.ensures)
+returns-3 c = rw (← axis_in_lem _ 1 (omega arith), ← c.before.before.before.before.before.before.before.axis_in.ensures, ← c.before.before.before.before.before.before.is_off.ensures, c.before.before.before.before.before.if-is_off.false, ← axis_in_lem _ 0 (omega arith), ← c.before.before.before.before.axis_in-else-is_off.ensures, ← c.before.before.before.is_off-else-is_off.ensures, c.before.before.if-is_off-2.false, ← axis_in_lem _ 2 (omega arith), ← c.before.axis_in-else-is_off-2.ensures, ← c.is_off-else-is_off-2.ensures)
 
-pub is-thrown-spec : {M : Type 1} → statement M
-is-thrown-spec = tie.close (tie.spec (λ c κs. search rules) (λ c κs. tt) (λ c κs. search rules) (λ c κs. tt) (λ c κs. search rules) (λ c κs. tt) returns returns-2 returns-3)
+pub is_thrown_spec : {M : Type 1} → statement M
+is_thrown_spec = tie.close (tie.spec (λ c κs. search rules) (λ c κs. tt) (λ c κs. search rules) (λ c κs. tt) (λ c κs. search rules) (λ c κs. tt) returns returns-2 returns-3)

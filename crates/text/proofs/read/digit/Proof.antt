@@ -6,25 +6,25 @@ use Rattle.text.specs.Bytes.{digit_of}
 use Rattle.text.proofs.read.digit.Statement.{statement}
 use Rattle.text.proofs.read.digit.Tie as tie
 
-returns : tie.Need-returns
+returns : tie.Need-returns-then-b-lt48
 unfolding digit_of
-returns c = rw (lt-ltb _ _ c.if1.true)
+returns c = rw (lt-ltb _ _ c.if-b-lt48.true)
 
-returns-2 : tie.Need-returns-2
+returns-2 : tie.Need-returns-then-b-le57
 unfolding digit_of
-returns-2 c = rw (le-ltb _ _ c.before.if1.false, le-leb _ _ c.if2.true)
+returns-2 c = rw (le-ltb _ _ c.before.if-b-lt48.false, le-leb _ _ c.if-b-le57.true)
 
-returns-3 : tie.Need-returns-3
+returns-3 : tie.Need-returns-then-b-lt97
 unfolding digit_of
-returns-3 c = rw (le-ltb _ _ c.before.before.if1.false, lt-leb _ _ c.before.if2.false, lt-ltb _ _ c.if3.true)
+returns-3 c = rw (le-ltb _ _ c.before.before.if-b-lt48.false, lt-leb _ _ c.before.if-b-le57.false, lt-ltb _ _ c.if-b-lt97.true)
 
-returns-4 : tie.Need-returns-4
+returns-4 : tie.Need-returns-then-b-le102
 unfolding digit_of
-returns-4 c = rw (le-ltb _ _ c.before.before.before.if1.false, lt-leb _ _ c.before.before.if2.false, le-ltb _ _ c.before.if3.false, le-leb _ _ c.if4.true)
+returns-4 c = rw (le-ltb _ _ c.before.before.before.if-b-lt48.false, lt-leb _ _ c.before.before.if-b-le57.false, le-ltb _ _ c.before.if-b-lt97.false, le-leb _ _ c.if-b-le102.true)
 
-returns-5 : tie.Need-returns-5
+returns-5 : tie.Need-returns-else-b-le102
 unfolding digit_of
-returns-5 c = rw (le-ltb _ _ c.before.before.before.if1.false, lt-leb _ _ c.before.before.if2.false, le-ltb _ _ c.before.if3.false, lt-leb _ _ c.if4.false)
+returns-5 c = rw (le-ltb _ _ c.before.before.before.if-b-lt48.false, lt-leb _ _ c.before.before.if-b-le57.false, le-ltb _ _ c.before.if-b-lt97.false, lt-leb _ _ c.if-b-le102.false)
 
-pub digit-spec : {M : Type 1} → statement M
-digit-spec = tie.close (tie.spec (λ c. search rules) (λ c. search rules) returns returns-2 returns-3 returns-4 returns-5)
+pub digit_spec : {M : Type 1} → statement M
+digit_spec = tie.close (tie.spec (λ c. search rules) (λ c. search rules) returns returns-2 returns-3 returns-4 returns-5)

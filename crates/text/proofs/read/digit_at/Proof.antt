@@ -6,13 +6,13 @@ use Rattle.text.specs.Bytes.{digit_at}
 use Rattle.text.proofs.read.digit_at.Statement.{statement}
 use Rattle.text.proofs.read.digit_at.Tie as tie
 
-returns : tie.Need-returns
+returns : tie.Need-returns-then-i-s
 unfolding digit_at
-returns c = rw (lt-ltb _ _ c.before.before.if1.true, ← c.digit.ensures)
+returns c = rw (lt-ltb _ _ c.before.before.if-i-s.true, ← c.digit.ensures)
 
-returns-2 : tie.Need-returns-2
+returns-2 : tie.Need-returns-else-i-s
 unfolding digit_at
-returns-2 c = rw (le-ltb _ _ c.if1.false)
+returns-2 c = rw (le-ltb _ _ c.if-i-s.false)
 
-pub digit-at-spec : {M : Type 1} → statement M
-digit-at-spec = tie.close (tie.spec (λ c. search rules) (λ c κs. tt) returns returns-2)
+pub digit_at_spec : {M : Type 1} → statement M
+digit_at_spec = tie.close (tie.spec (λ c. search rules) (λ c κs. tt) returns returns-2)

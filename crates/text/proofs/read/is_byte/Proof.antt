@@ -6,13 +6,13 @@ use Rattle.text.specs.Bytes.{byte_is}
 use Rattle.text.proofs.read.is_byte.Statement.{statement}
 use Rattle.text.proofs.read.is_byte.Tie as tie
 
-returns : tie.Need-returns
+returns : tie.Need-returns-then-i-s
 unfolding byte_is
-returns c = rw (lt-ltb _ _ c.before.if1.true)
+returns c = rw (lt-ltb _ _ c.before.if-i-s.true)
 
-returns-2 : tie.Need-returns-2
+returns-2 : tie.Need-returns-else-i-s
 unfolding byte_is
-returns-2 c = rw (le-ltb _ _ c.if1.false)
+returns-2 c = rw (le-ltb _ _ c.if-i-s.false)
 
-pub is-byte-spec : {M : Type 1} → statement M
-is-byte-spec = tie.close (tie.spec (λ c. search rules) returns returns-2)
+pub is_byte_spec : {M : Type 1} → statement M
+is_byte_spec = tie.close (tie.spec (λ c. search rules) returns returns-2)

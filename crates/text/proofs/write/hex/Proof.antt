@@ -6,7 +6,7 @@ use Rattle.text.proofs.write.hex.Tie as tie
 
 returns : tie.Need-returns
 unfolding hex_text four_text
-returns c = rw (c.digit-char8.ensures, c.before.digit-char7.ensures, c.before.before.digit-char6.ensures, c.before.before.before.digit-char5.ensures, c.before.before.before.before.digit-char4.ensures, c.before.before.before.before.before.digit-char3.ensures, c.before.before.before.before.before.before.digit-char2.ensures, c.before.before.before.before.before.before.before.digit_char.ensures)
+returns c = rw (c.digit_char-8.ensures, c.before.digit_char-7.ensures, c.before.before.digit_char-6.ensures, c.before.before.before.digit_char-5.ensures, c.before.before.before.before.digit_char-4.ensures, c.before.before.before.before.before.digit_char-3.ensures, c.before.before.before.before.before.before.digit_char-2.ensures, c.before.before.before.before.before.before.before.digit_char.ensures)
 
-pub hex-spec : {M : Type 1} → statement M
-hex-spec = tie.close (tie.spec (λ c κs. search rules) (λ c κs. search rules) (λ c κs. search rules) (λ c κs. search rules) (λ c κs. search rules) (λ c κs. search rules) (λ c κs. search rules) (λ c κs. search rules) returns)
+pub hex_spec : {M : Type 1} → statement M
+hex_spec = tie.close (tie.spec (λ c κs. search rules) (λ c κs. search rules) (λ c κs. search rules) (λ c κs. search rules) (λ c κs. search rules) (λ c κs. search rules) (λ c κs. search rules) (λ c κs. search rules) returns)

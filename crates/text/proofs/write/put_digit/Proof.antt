@@ -4,11 +4,11 @@ use Rattle.text.proofs.Puts.{put_one, put_none}
 use Rattle.text.proofs.write.put_digit.Statement.{statement}
 use Rattle.text.proofs.write.put_digit.Tie as tie
 
-returns : tie.Need-returns
-returns c = rw (← c.digit_char.ensures) (put_one _ _ _ c.before.if1.true)
+returns : tie.Need-returns-then-at-out
+returns c = rw (← c.digit_char.ensures) (put_one _ _ _ c.before.if-at-out.true)
 
-returns-2 : tie.Need-returns-2
-returns-2 c = put_none _ _ _ c.if1.false
+returns-2 : tie.Need-returns-else-at-out
+returns-2 c = put_none _ _ _ c.if-at-out.false
 
-pub put-digit-spec : {M : Type 1} → statement M
-put-digit-spec = tie.close (tie.spec (λ c κs. search rules) (λ c. search rules) (λ c. search rules) (λ c. search rules) returns returns-2)
+pub put_digit_spec : {M : Type 1} → statement M
+put_digit_spec = tie.close (tie.spec (λ c κs. search rules) (λ c. search rules) (λ c. search rules) (λ c. search rules) returns returns-2)

@@ -13,16 +13,16 @@ use Rattle.text.specs.Put.{fitting, Put}
 use Rattle.text.proofs.write.put_word.Statement.{statement}
 use Rattle.text.proofs.write.put_word.Tie as tie
 
-abbrev invariant-loop : tie.invariant-loop
+abbrev invariant-loop : tie.invariant-loop-i
 invariant-loop out₀ at word n i₀ out i = (i ≤ n) × (n ≡ min (length out₀ - at) (length word)) × (out ≡ paste out₀ at (fitting out₀ at word) i) × (length out ≡ length out₀)
 
-abbrev decreases-loop : tie.decreases-loop
+abbrev decreases-loop : tie.decreases-loop-i
 decreases-loop out₀ at word n i₀ out i = n - i
 
-loop-holds : tie.Need-loop-init invariant-loop decreases-loop
+loop-holds : tie.Need-loop-i-init invariant-loop decreases-loop
 loop-holds c =
     let s = c.before.before.before in
-    (omega arith, c.fit.ensures, paste-zero s.args.out.now s.args.at (fitting s.args.out.now s.args.at s.args.word.now), refl)
+    (omega arith, c.fit-n.ensures, paste-zero s.args.out.now s.args.at (fitting s.args.out.now s.args.at s.args.word.now), refl)
 
 -- one more byte
 turn : (d : List ℕ) (at : ℕ) (s x : List ℕ) (i : ℕ) → i < min (length d - at) (length s) → x ≡ paste d at (fitting d at s) i → set x (at + i) (get_or s i 0) ≡ paste d at (fitting d at s) (i + 1)
@@ -33,14 +33,14 @@ turn d at s x i h e =
     ∙ paste-suc d at (fitting d at s) i 0 (omega arith) (rw (length-take (length d - at) s) h)
     ∙ ap (λ (k : ℕ). paste d at (fitting d at s) k) (sym (add-one i))
 
-loop-again : tie.Need-loop-preserved invariant-loop decreases-loop
+loop-again : tie.Need-loop-i-preserved invariant-loop decreases-loop
 loop-again c =
     let t = c.before in
     let l = t.before in (
-      omega (arith, t.loop-test.true),
-      l.loop.invariant.1,
-      turn _ _ _ _ _ (omega (arith, t.loop-test.true, l.loop.invariant.1)) l.loop.invariant.2,
-      length-set l.loop.out _ _ ∙ l.loop.invariant.3,
+      omega (arith, t.loop-i-test.true),
+      l.loop-i.invariant.1,
+      turn _ _ _ _ _ (omega (arith, t.loop-i-test.true, l.loop-i.invariant.1)) l.loop-i.invariant.2,
+      length-set l.loop-i.out _ _ ∙ l.loop-i.invariant.3,
     )
 
 -- all that fits is copied
@@ -51,9 +51,9 @@ copied d at s x i n f e h =
     record { list = h ∙ ap (λ (k : ℕ). paste d at (fitting d at s) k) (f ∙ long) ∙ paste_over d at (fitting d at s); place = ap (λ (k : ℕ). at + k) long }
 
 returns : tie.Need-returns invariant-loop decreases-loop
-returns c = let i = c.before.loop.invariant in copied _ _ _ _ _ _ (le_antisymm i.0 c.loop-test.false) i.1 i.2
+returns c = let i = c.before.loop-i.invariant in copied _ _ _ _ _ _ (le_antisymm i.0 c.loop-i-test.false) i.1 i.2
 
-pub put-word-spec : {M : Type 1} → statement M
-put-word-spec =
+pub put_word_spec : {M : Type 1} → statement M
+put_word_spec =
     tie.close
     (tie.spec invariant-loop decreases-loop (λ c κs. search rules) loop-holds (λ c. search rules) (λ c. search rules) (λ c. search rules) (λ c. search rules) (λ c. search rules) loop-again (λ c. search rules) (λ c. search rules) returns)

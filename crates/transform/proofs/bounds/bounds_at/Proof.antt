@@ -5,13 +5,13 @@ use Rattle.transform.specs.Bounds.{starting_at}
 use Rattle.transform.proofs.bounds.bounds_at.Statement.{statement}
 use Rattle.transform.proofs.bounds.bounds_at.Tie as tie
 
-returns : tie.Need-returns
+returns : tie.Need-returns-in-Point
 unfolding starting_at
-returns c = rw (← c.before.before.before.before.transform-point.ensures, c.before.before.q.given.1, ← c.from-point.ensures)
+returns c = rw (← c.before.before.transform_point.ensures, c.before.in-Point.is, ← c.from_point.ensures)
 
-returns-2 : tie.Need-returns-2
+returns-2 : tie.Need-returns-in-ZeroWeight
 unfolding starting_at
-returns-2 c = rw (← c.before.before.transform-point.ensures, c.enum_told.given.1)
+returns-2 c = rw (← c.before.transform_point.ensures, c.in-ZeroWeight.is)
 
-pub bounds-at-spec : {M : Type 1} → statement M
-bounds-at-spec = tie.close (tie.spec (λ c κs. tt) (λ c. search rules) (λ c κs. tt) (λ c. search rules) returns returns-2)
+pub bounds_at_spec : {M : Type 1} → statement M
+bounds_at_spec = tie.close (tie.spec (λ c κs. tt) (λ c. search rules) (λ c κs. tt) (λ c. search rules) returns returns-2)

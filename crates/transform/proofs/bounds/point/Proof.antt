@@ -9,5 +9,5 @@ returns : tie.Need-returns
 unfolding point_of
 returns c = refl
 
-pub point-spec : {M : Type 1} → statement M
-point-spec = tie.close (tie.spec returns)
+pub point_spec : {M : Type 1} → statement M
+point_spec = tie.close (tie.spec returns)

@@ -9,5 +9,5 @@ returns : tie.Need-returns
 unfolding camera_to_world
 returns c = refl
 
-pub camera-to-world-spec : {M : Type 1} → statement M
-camera-to-world-spec = tie.close (tie.spec returns)
+pub camera_to_world_spec : {M : Type 1} → statement M
+camera_to_world_spec = tie.close (tie.spec returns)

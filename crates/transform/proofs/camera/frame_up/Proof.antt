@@ -5,13 +5,13 @@ use Rattle.transform.specs.LookAt.{upward}
 use Rattle.transform.proofs.camera.frame_up.Statement.{statement}
 use Rattle.transform.proofs.camera.frame_up.Tie as tie
 
-returns : tie.Need-returns
+returns : tie.Need-returns-in-Vector
 unfolding upward
-returns c = rw (← c.before.before.before.before.normalize.ensures, c.before.before.up.given.1, ← c.frame.ensures)
+returns c = rw (← c.before.before.normalize.ensures, c.before.in-Vector.is, ← c.frame.ensures)
 
-returns-2 : tie.Need-returns-2
+returns-2 : tie.Need-returns-in-ByZero
 unfolding upward
-returns-2 c = rw (← c.before.before.normalize.ensures, c.enum_told.given.1)
+returns-2 c = rw (← c.before.normalize.ensures, c.in-ByZero.is)
 
-pub frame-up-spec : {M : Type 1} → statement M
-frame-up-spec = tie.close (tie.spec (λ c κs. tt) (λ c. search rules) (λ c κs. tt) (λ c. search rules) returns returns-2)
+pub frame_up_spec : {M : Type 1} → statement M
+frame_up_spec = tie.close (tie.spec (λ c κs. tt) (λ c. search rules) (λ c κs. tt) (λ c. search rules) returns returns-2)

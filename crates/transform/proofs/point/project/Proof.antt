@@ -5,17 +5,17 @@ use Rattle.transform.specs.Point.{projected}
 use Rattle.transform.proofs.point.project.Statement.{statement}
 use Rattle.transform.proofs.point.project.Tie as tie
 
-returns : tie.Need-returns
+returns : tie.Need-returns-then-w
 unfolding projected
-returns c = rw c.if1.true
+returns c = rw c.if-w.true
 
-returns-2 : tie.Need-returns-2
+returns-2 : tie.Need-returns-in-Point
 unfolding projected
-returns-2 c = rw (c.before.before.before.before.if1.false, ← c.before.before.before.div.ensures, c.before.q.given.1)
+returns-2 c = rw (c.before.before.if-w.false, ← c.before.div.ensures, c.in-Point.is)
 
-returns-3 : tie.Need-returns-3
+returns-3 : tie.Need-returns-in-ByZero
 unfolding projected
-returns-3 c = rw (c.before.before.before.if1.false, ← c.before.before.div.ensures, c.enum_told.given.1)
+returns-3 c = rw (c.before.before.if-w.false, ← c.before.div.ensures, c.in-ByZero.is)
 
-pub project-spec : {M : Type 1} → statement M
-project-spec = tie.close (tie.spec returns (λ c κs. tt) (λ c. search rules) (λ c. search rules) returns-2 returns-3)
+pub project_spec : {M : Type 1} → statement M
+project_spec = tie.close (tie.spec returns (λ c κs. tt) (λ c. search rules) (λ c. search rules) returns-2 returns-3)

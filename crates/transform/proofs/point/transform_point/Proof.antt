@@ -6,7 +6,7 @@ use Rattle.transform.proofs.point.transform_point.Tie as tie
 
 returns : tie.Need-returns
 unfolding transform_point
-returns c = rw (c.project.ensures, c.before.row-point4.ensures, c.before.before.row-point3.ensures, c.before.before.before.row-point2.ensures, c.before.before.before.before.row-point.ensures)
+returns c = rw (c.project.ensures, c.before.row_point-wp.ensures, c.before.before.before.row_point-zp.ensures, c.before.before.before.before.before.row_point-yp.ensures, c.before.before.before.before.before.before.before.row_point-xp.ensures)
 
-pub transform-point-spec : {M : Type 1} → statement M
-transform-point-spec = tie.close (tie.spec (λ c κs. tt) (λ c κs. tt) (λ c κs. tt) (λ c κs. tt) (λ c κs. tt) returns)
+pub transform_point_spec : {M : Type 1} → statement M
+transform_point_spec = tie.close (tie.spec (λ c κs. tt) (λ c κs. tt) (λ c κs. tt) (λ c κs. tt) (λ c κs. tt) returns)

@@ -5,13 +5,13 @@ use Rattle.transform.specs.Point.{transform_point_error}
 use Rattle.transform.proofs.point.transform_point_error.Statement.{statement}
 use Rattle.transform.proofs.point.transform_point_error.Tie as tie
 
-returns : tie.Need-returns
+returns : tie.Need-returns-in-Point
 unfolding transform_point_error
-returns c = rw (← c.before.before.before.before.transform-point.ensures, c.before.before.q.given.1, ← c.point-error.ensures)
+returns c = rw (← c.before.before.transform_point.ensures, c.before.in-Point.is, ← c.point_error.ensures)
 
-returns-2 : tie.Need-returns-2
+returns-2 : tie.Need-returns-in-ZeroWeight
 unfolding transform_point_error
-returns-2 c = rw (← c.before.before.transform-point.ensures, c.enum_told.given.1)
+returns-2 c = rw (← c.before.transform_point.ensures, c.in-ZeroWeight.is)
 
-pub transform-point-error-spec : {M : Type 1} → statement M
-transform-point-error-spec = tie.close (tie.spec (λ c κs. tt) (λ c. search rules) (λ c κs. tt) (λ c. search rules) returns returns-2)
+pub transform_point_error_spec : {M : Type 1} → statement M
+transform_point_error_spec = tie.close (tie.spec (λ c κs. tt) (λ c. search rules) (λ c κs. tt) (λ c. search rules) returns returns-2)

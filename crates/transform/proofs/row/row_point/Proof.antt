@@ -9,5 +9,5 @@ returns : tie.Need-returns
 unfolding row_point
 returns c = refl
 
-pub row-point-spec : {M : Type 1} → statement M
-row-point-spec = tie.close (tie.spec returns)
+pub row_point_spec : {M : Type 1} → statement M
+row_point_spec = tie.close (tie.spec returns)

@@ -6,7 +6,7 @@ use Rattle.transform.proofs.row.row_point_abs.Tie as tie
 
 returns : tie.Need-returns
 unfolding row_point_abs
-returns c = rw (c.abs4.ensures, c.before.abs3.ensures, c.before.before.before.before.abs2.ensures, c.before.before.before.before.before.before.before.abs.ensures)
+returns c = rw (c.abs-4.ensures, c.before.abs-3.ensures, c.before.before.before.before.abs-2.ensures, c.before.before.before.before.before.before.before.abs.ensures)
 
-pub row-point-abs-spec : {M : Type 1} → statement M
-row-point-abs-spec = tie.close (tie.spec (λ c κs. tt) (λ c κs. tt) (λ c κs. tt) (λ c κs. tt) returns)
+pub row_point_abs_spec : {M : Type 1} → statement M
+row_point_abs_spec = tie.close (tie.spec (λ c κs. tt) (λ c κs. tt) (λ c κs. tt) (λ c κs. tt) returns)

@@ -9,5 +9,5 @@ returns : tie.Need-returns
 unfolding row_vector
 returns c = refl
 
-pub row-vector-spec : {M : Type 1} → statement M
-row-vector-spec = tie.close (tie.spec returns)
+pub row_vector_spec : {M : Type 1} → statement M
+row_vector_spec = tie.close (tie.spec returns)

@@ -6,7 +6,7 @@ use Rattle.transform.proofs.row.row_vector_abs.Tie as tie
 
 returns : tie.Need-returns
 unfolding row_vector_abs
-returns c = rw (c.abs3.ensures, c.before.before.before.abs2.ensures, c.before.before.before.before.before.before.abs.ensures)
+returns c = rw (c.abs-3.ensures, c.before.before.before.abs-2.ensures, c.before.before.before.before.before.before.abs.ensures)
 
-pub row-vector-abs-spec : {M : Type 1} → statement M
-row-vector-abs-spec = tie.close (tie.spec (λ c κs. tt) (λ c κs. tt) (λ c κs. tt) returns)
+pub row_vector_abs_spec : {M : Type 1} → statement M
+row_vector_abs_spec = tie.close (tie.spec (λ c κs. tt) (λ c κs. tt) (λ c κs. tt) returns)

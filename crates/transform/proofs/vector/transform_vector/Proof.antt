@@ -6,7 +6,7 @@ use Rattle.transform.proofs.vector.transform_vector.Tie as tie
 
 returns : tie.Need-returns
 unfolding transform_vector
-returns c = rw (c.row-vector3.ensures, c.before.row-vector2.ensures, c.before.before.row-vector.ensures)
+returns c = rw (c.row_vector-3.ensures, c.before.before.row_vector-2.ensures, c.before.before.before.before.row_vector.ensures)
 
-pub transform-vector-spec : {M : Type 1} → statement M
-transform-vector-spec = tie.close (tie.spec (λ c κs. tt) (λ c κs. tt) (λ c κs. tt) returns)
+pub transform_vector_spec : {M : Type 1} → statement M
+transform_vector_spec = tie.close (tie.spec (λ c κs. tt) (λ c κs. tt) (λ c κs. tt) returns)

@@ -6,7 +6,7 @@ use Rattle.transform.proofs.vector.transform_vector_error.Tie as tie
 
 returns : tie.Need-returns
 unfolding transform_vector_error
-returns c = rw (c.vector-error.ensures, c.before.transform-vector.ensures)
+returns c = rw (c.vector_error.ensures, c.before.transform_vector.ensures)
 
-pub transform-vector-error-spec : {M : Type 1} → statement M
-transform-vector-error-spec = tie.close (tie.spec (λ c κs. tt) (λ c κs. tt) returns)
+pub transform_vector_error_spec : {M : Type 1} → statement M
+transform_vector_error_spec = tie.close (tie.spec (λ c κs. tt) (λ c κs. tt) returns)

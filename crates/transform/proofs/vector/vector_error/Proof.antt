@@ -6,7 +6,7 @@ use Rattle.transform.proofs.vector.vector_error.Tie as tie
 
 returns : tie.Need-returns
 unfolding vector_error
-returns c = rw (c.row-vector-abs3.ensures, c.before.row-vector-abs2.ensures, c.before.before.row-vector-abs.ensures, c.before.before.before.gamma.ensures)
+returns c = rw (c.row_vector_abs-3.ensures, c.before.before.row_vector_abs-2.ensures, c.before.before.before.before.row_vector_abs.ensures, c.before.before.before.before.before.before.gamma-gamma.ensures)
 
-pub vector-error-spec : {M : Type 1} → statement M
-vector-error-spec = tie.close (tie.spec (λ c κs. tt) (λ c κs. tt) (λ c κs. tt) (λ c κs. tt) returns)
+pub vector_error_spec : {M : Type 1} → statement M
+vector_error_spec = tie.close (tie.spec (λ c κs. tt) (λ c κs. tt) (λ c κs. tt) (λ c κs. tt) returns)

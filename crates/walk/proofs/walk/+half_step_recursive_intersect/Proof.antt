@@ -105,14 +105,14 @@ walk-returns-2 : (t : ℕ) → walk-lts.Need-returns-2 (walk-calls t) (walk_at t
 walk-returns-2 t c =
     let first = c.before.before.before in
     let halved = first.before.before.before.before in
-    walk_stops _ _ _ _ _ _ _ _ _ _ _ _ _ _ halved.before.before.before.if1.false (one_more _ _ _) halved.before.before.middle.ensures halved.before.low_half_lem.ensures halved.high_half_lem.ensures first.half_step.ensures (over_is _ _ _ _ _ c.before.is-over.ensures) c.if2.true
+    walk_stops _ _ _ _ _ _ _ _ _ _ _ _ _ _ halved.before.before.before.if1.false (one_more _ _ _) halved.before.before.middle.ensures halved.before.low_half.ensures halved.high_half.ensures first.half_step.ensures (over_is _ _ _ _ _ c.before.is-over.ensures) c.if2.true
 
 walk-returns-3 : (t : ℕ) → walk-lts.Need-returns-3 (walk-calls t) (walk_at t) walk.Post
 walk-returns-3 t c =
     let tested = c.before.before.before.before in
     let first = tested.before.before.before in
     let halved = first.before.before.before.before in
-    walk_goes _ _ _ _ _ _ _ _ _ _ _ _ _ _ halved.before.before.before.if1.false (one_more _ _ _) halved.before.before.middle.ensures halved.before.low_half_lem.ensures halved.high_half_lem.ensures first.half_step.ensures (over_is _ _ _ _ _ tested.before.is-over.ensures) tested.if2.false _ c.half-step2.ensures
+    walk_goes _ _ _ _ _ _ _ _ _ _ _ _ _ _ halved.before.before.before.if1.false (one_more _ _ _) halved.before.before.middle.ensures halved.before.low_half.ensures halved.high_half.ensures first.half_step.ensures (over_is _ _ _ _ _ tested.before.is-over.ensures) tested.if2.false _ c.half-step2.ensures
 
 pub +half-step-recursive-intersect-spec : {M : Type 1} → statement M
 +half-step-recursive-intersect-spec =

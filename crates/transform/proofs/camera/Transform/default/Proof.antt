@@ -6,7 +6,7 @@ use Rattle.transform.proofs.camera.Transform.default.Tie as tie
 
 returns : tie.Need-returns
 unfolding identity_transform
-returns c = rw c.default.ensures
+returns c = rw c.default-m.ensures
 
-pub default-spec : {M : Type 1} → statement M
-default-spec = tie.close (tie.spec (λ c κs. tt) returns)
+pub default_spec : {M : Type 1} → statement M
+default_spec = tie.close (tie.spec (λ c κs. tt) returns)
