@@ -64,7 +64,7 @@ module _ (n : ℕ) (t : Transfer) (due : is_due n t ≡ true) where
   is_open_lem : is_open t.stand ≡ true
   is_open_lem = ((and-eq-true_iff (is_open t.stand) (ltb t.done n)).0 due).0
 
-  more : t.done < n
+  pub more : t.done < n
   more = ltb-true t.done n ((and-eq-true_iff (is_open t.stand) (ltb t.done n)).0 due).1
 
   pub within : Kept n t → Within n t

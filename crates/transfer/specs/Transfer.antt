@@ -1,5 +1,6 @@
 -- How a transfer goes on by what a reader's read or a writer's write answers, and where it stops. Definitions only.
-use Rattle.std.specs.Prelude.{ℕ, zero, suc, ◌+◌, ◌-◌, ◌≤◌, ◌<◌, Bool, true, false, ◌&&◌, cond, ◌≡◌, eqb, ltb, ℤ, pos, negsuc}
+use Rattle.std.specs.Prelude.{ℕ, zero, suc, ◌+◌, ◌-◌, ◌≤◌, ◌<◌, Bool, true, false, ◌&&◌, cond, ◌≡◌, eqb, ltb, ℤ, pos, negsuc, Option, List, length}
+use Rattle.std.specs.Io.KnownBytes.{Consumes}
 use Rattle.transfer.specs.declared.Stand.{Stand}
 use Rattle.transfer.specs.declared.Stand.TheVariants.{Open, Nothing, Interrupted, Failed}
 use Rattle.transfer.specs.declared.Transfer.{Transfer}
@@ -72,3 +73,7 @@ pub data Reached (n : ℕ) : Transfer → Type 0 where
 -- such a transfer that is at its end
 abbrev pub Ended : ℕ → Transfer → Type 0
 Ended n r = Reached n r × (is_due n r ≡ false)
+
+-- so many bytes are read off, where they are known
+abbrev pub Skips : Option (List ℕ) → Option (List ℕ) → ℕ → Type 0
+Skips old new n = (bs : List ℕ) × (length bs ≡ n) × Consumes old new bs

@@ -3,9 +3,12 @@
 // fails ends the transfer, and whoever asked for it is told why.
 #![tactic(auto)]
 
-ghost use Rattle.std.specs.Prelude.{◌≡◌, ◌+◌, ◌-◌, ◌≤◌, ◌<◌, ◌^◌, IfOk, length};
-ghost use Rattle.transfer.specs.Transfer.{is_open, most_interruptions, counted, after_failure, after_call, Answered, is_due, Within, Ended};
+ghost use Rattle.std.specs.Prelude.{◌≡◌, ◌+◌, ◌-◌, ◌≤◌, ◌<◌, ◌^◌, IfOk, MatchResult, Ok, length, take, drop, pos, unwrap_or};
+ghost use Rattle.std.specs.IoError.{raw_os_error};
+ghost use Rattle.std.specs.Io.KnownBytes.{Appends, Consumes, IsAtEnd};
+ghost use Rattle.transfer.specs.Transfer.{is_open, most_interruptions, counted, after_failure, after_call, Answered, is_due, Within, Ended, Skips};
 ghost use Rattle.transfer.specs.Transfer.{start as Transfer·start};
+ghost use Rattle.transfer.specs.declared.Stand.TheVariants.{Nothing};
 
 use std::io;
 use std::io::{Read, Write};
@@ -120,7 +123,9 @@ fn is_due(t: Transfer, n: usize) -> bool
 }
 
 // The number of an error: 0 where it is not the system's.
-pub fn number_of(error: &io::Error) -> i32 {
+pub fn number_of(error: &io::Error) -> i32
+    ensures { result ≡ unwrap_or (raw_os_error error.now) (pos 0) }
+{
     match error.raw_os_error() {
         Some(number) => number,
         None => 0,
@@ -132,7 +137,9 @@ fn after_answer(n: usize, t: Transfer, answer: io::Result<usize>) -> Transfer
     requires can { Within n t }
     requires within { IfOk answer (λ k. k ≤ n - t.done) }
     requires small { IfOk answer (λ k. k < 2 ^ 63) }
-    ensures { Answered n t result }
+    ensures answered { Answered n t result }
+    ensures done { MatchResult answer (λ k. result.done ≡ t.done + k) (λ e. result.done ≡ t.done) }
+    ensures nothing { result.stand ≡ Nothing → answer ≡ Ok 0 }
 {
     match answer {
         Ok(moved) => after_call(t, moved as isize, 0),
@@ -143,7 +150,9 @@ fn after_answer(n: usize, t: Transfer, answer: io::Result<usize>) -> Transfer
 // One call, for the bytes behind those that were moved.
 fn write_rest<W: Write>(out: &mut W, buf: &[u8], t: Transfer) -> Transfer
     requires { Within (length buf.now) t }
-    ensures { Answered (length buf.now) t result }
+    ensures answered { Answered (length buf.now) t result }
+    ensures more { t.done ≤ result.done }
+    ensures bytes { Appends (W.contents out.old) (W.contents out.new) (take (result.done - t.done) (drop t.done buf.now)) }
 {
     let answer = out.write(&buf[t.done..]);
     after_answer(buf.len(), t, answer)
@@ -151,7 +160,11 @@ fn write_rest<W: Write>(out: &mut W, buf: &[u8], t: Transfer) -> Transfer
 
 fn read_rest<R: Read>(input: &mut R, buf: &mut [u8], t: Transfer) -> Transfer
     requires { Within (length buf.old) t }
-    ensures { Answered (length buf.old) t result }
+    ensures answered { Answered (length buf.old) t result }
+    ensures more { t.done ≤ result.done }
+    ensures front { take t.done buf.new ≡ take t.done buf.old }
+    ensures bytes { Consumes (R.remaining input.old) (R.remaining input.new) (take (result.done - t.done) (drop t.done buf.new)) }
+    ensures end { result.stand ≡ Nothing → t.done < length buf.old → IsAtEnd (R.remaining input.new) }
 {
     let answer = input.read(&mut buf[t.done..]);
     after_answer(buf.len(), t, answer)
@@ -167,7 +180,9 @@ fn fewer(a: usize, b: usize) -> usize
 // The same for bytes that nobody asks for: the slice is only lent, and at most n bytes are moved in all.
 fn skip_rest<R: Read>(input: &mut R, buf: &mut [u8], n: usize, t: Transfer) -> Transfer
     requires { Within n t }
-    ensures { Answered n t result }
+    ensures answered { Answered n t result }
+    ensures more { t.done ≤ result.done }
+    ensures bytes { Skips (R.remaining input.old) (R.remaining input.new) (result.done - t.done) }
 {
     let k = fewer(buf.len(), n - t.done);
     let answer = input.read(&mut buf[..k]);
@@ -176,7 +191,9 @@ fn skip_rest<R: Read>(input: &mut R, buf: &mut [u8], n: usize, t: Transfer) -> T
 
 // Writes all bytes of a slice, or those before a call that failed.
 pub fn write<W: Write>(out: &mut W, buf: &[u8]) -> Transfer
-    ensures { Ended (length buf.now) result }
+    ensures ended { Ended (length buf.now) result }
+    ensures within { result.done ≤ length buf.now }
+    ensures bytes { Appends (W.contents out.old) (W.contents out.new) (take result.done buf.now) }
 {
     let n = buf.len();
     let mut t = start();
@@ -188,7 +205,10 @@ pub fn write<W: Write>(out: &mut W, buf: &[u8]) -> Transfer
 
 // Reads until a slice is full, the input ends or a call fails.
 pub fn read<R: Read>(input: &mut R, buf: &mut [u8]) -> Transfer
-    ensures { Ended (length buf.old) result }
+    ensures ended { Ended (length buf.old) result }
+    ensures within { result.done ≤ length buf.new }
+    ensures bytes { Consumes (R.remaining input.old) (R.remaining input.new) (take result.done buf.new) }
+    ensures end { result.stand ≡ Nothing → IsAtEnd (R.remaining input.new) }
 {
     let n = buf.len();
     let mut t = start();
@@ -200,7 +220,9 @@ pub fn read<R: Read>(input: &mut R, buf: &mut [u8]) -> Transfer
 
 // Reads at most n bytes off, by way of a slice, until the input ends or a call fails.
 pub fn skip<R: Read>(input: &mut R, buf: &mut [u8], n: usize) -> Transfer
-    ensures { Ended n result }
+    ensures ended { Ended n result }
+    ensures within { result.done ≤ n }
+    ensures bytes { Skips (R.remaining input.old) (R.remaining input.new) result.done }
 {
     let mut t = start();
     while is_due(t, n) {
