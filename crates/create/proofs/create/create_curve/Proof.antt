@@ -38,7 +38,7 @@ loop-again c =
     let d = s.args.list.now in
     let f = part s.args.cp s.args.width0 s.args.width1 s.args.n in
     let i = l.loop-i.i in
-    let written : called.put_part.new.0 ≡ over d s.args.at (up_to f (i + 1)) =
+    let written : called.put_part.new.list ≡ over d s.args.at (up_to f (i + 1)) =
     called.put_part.ensures
     ∙ ap (λ (x : List Float). over x l.loop-i.to (f i)) l.loop-i.invariant.2
     ∙ ap (λ (x : ℕ). over (over d s.args.at (up_to f i)) x (f i)) l.loop-i.invariant.1

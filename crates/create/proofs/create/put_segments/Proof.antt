@@ -38,7 +38,7 @@ module _ (t : tie.In-loop-seg invariant-loop decreases-loop) where
   s = l.before.before.before.before.before
 
   abbrev seg : ℕ
-  seg = l.loop.seg
+  seg = l.loop-seg.seg
 
   abbrev stride : ℕ
   stride = stride_of s.args.p.degree s.args.p.basis
@@ -50,10 +50,10 @@ module _ (t : tie.In-loop-seg invariant-loop decreases-loop) where
   f = segment_floats s.args.points.now s.args.p s.args.n
 
   points-in : seg * stride + (3 * s.args.p.degree + 3) ≤ length s.args.points.now
-  points-in = within-points seg s.args.n stride (3 * s.args.p.degree + 3) (length s.args.points.now) t.loop-test.taken (omega (arith, s.pre.1.0))
+  points-in = within-points seg s.args.n stride (3 * s.args.p.degree + 3) (length s.args.points.now) t.loop-seg-test.true (omega (arith, s.requires.1.0))
 
   list-in : seg * (parts * floats) + parts * floats ≤ length s.args.list.now
-  list-in = within-list seg s.args.n parts (length s.args.list.now) t.loop-test.taken s.pre.1.1
+  list-in = within-list seg s.args.n parts (length s.args.list.now) t.loop-seg-test.true s.requires.1.1
 
 loop-holds : tie.Need-loop-seg-init invariant-loop decreases-loop
 unfolding up_to
@@ -64,34 +64,34 @@ loop-holds c =
 put-segment-requires : tie.Need-put_segment-requires invariant-loop decreases-loop
 put-segment-requires c κs =
     let t = c.before in
-    let i = (l t).loop.invariant in
+    let i = (l t).loop-seg.invariant in
     ((s t).requires.0, ((omega (arith, t.loop-seg-test.true), i.1, omega (arith, points-in t, i.1)), omega (arith, list-in t, i.2, i.4)))
 
 add-from : tie.Need-overflow_add-from invariant-loop decreases-loop
 add-from c =
     let t = c.before.before.before.before in
-    omega (arith, points-in t, (l t).loop.invariant.1, (l t).before.before.stride.ensures, stride-le (s t).args.p.degree (s t).args.p.basis)
+    omega (arith, points-in t, (l t).loop-seg.invariant.1, (l t).before.before.stride-step.ensures, stride-le (s t).args.p.degree (s t).args.p.basis)
 
 add-to : tie.Need-overflow_add-to invariant-loop decreases-loop
 add-to c =
     let t = c.before.before.before.before in
-    omega (arith, list-in t, (l t).loop.invariant.2, (l t).before.part_count.ensures)
+    omega (arith, list-in t, (l t).loop-seg.invariant.2, (l t).before.part_count.ensures)
 
 loop-again : tie.Need-loop-seg-preserved invariant-loop decreases-loop
 loop-again c =
     let called = c.before.before in
     let t = called.before.before in
-    let i = (l t).loop.invariant in
+    let i = (l t).loop-seg.invariant in
     let d = (s t).args.list.now in
     let k = parts t * floats in
     let long : (j : ℕ) → length (f t j) ≡ k = λ j. length-segment _ _ _ j in
-    let written : called.put_segment.new.0 ≡ over d 0 (up_to (f t) (seg t + 1)) =
+    let written : called.put_segment.new.list ≡ over d 0 (up_to (f t) (seg t + 1)) =
     called.put_segment.ensures
-    ∙ ap (λ (x : List Float). over x (l t).loop.to (f t (seg t))) i.3
+    ∙ ap (λ (x : List Float). over x (l t).loop-seg.to (f t (seg t))) i.3
     ∙ ap (λ (x : ℕ). over (over d 0 (up_to (f t) (seg t))) x (f t (seg t))) (i.2 ∙ sym (zero-add (seg t * k)))
     ∙ over_next d 0 (f t) k (seg t) long (omega (arith, list-in t)) in (
       omega arith,
-      omega (arith, next (seg t) (stride t), i.1, (l t).before.before.stride.ensures),
+      omega (arith, next (seg t) (stride t), i.1, (l t).before.before.stride-step.ensures),
       omega (arith, next (seg t) k, i.2, (l t).before.part_count.ensures),
       written,
       ap length written ∙ over-length d 0 (f t) k (seg t + 1) long (omega (arith, list-in t, next (seg t) k)),

@@ -5,13 +5,13 @@ use Rattle.grammar.specs.Head.{advanced}
 use Rattle.grammar.proofs.head.advance.Statement.{statement}
 use Rattle.grammar.proofs.head.advance.Tie as tie
 
-returns : tie.Need-returns
+returns : tie.Need-returns-then-t
 unfolding advanced
-returns c = rw c.if1.true
+returns c = rw c.if-t.true
 
-returns-2 : tie.Need-returns-2
+returns-2 : tie.Need-returns-else-t
 unfolding advanced
-returns-2 c = rw c.if1.false
+returns-2 c = rw c.if-t.false
 
-pub advance-spec : {M : Type 1} → statement M
-advance-spec = tie.close (tie.spec (λ c. search rules) returns returns-2)
+pub advance_spec : {M : Type 1} → statement M
+advance_spec = tie.close (tie.spec (λ c. search rules) returns returns-2)

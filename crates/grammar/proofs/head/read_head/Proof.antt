@@ -15,28 +15,28 @@ start-at e = ap (λ (c : Cursor). c.at) e
 
 returns : tie.Need-returns
 unfolding head_of
-returns c = rw (c.before.take-field7.ensures, c.before.before.take-field6.ensures, c.before.before.before.take-field5.ensures, c.before.before.before.before.take-field4.ensures, c.before.before.before.before.before.take-field3.ensures, c.before.before.before.before.before.before.take-field2.ensures, c.before.before.before.before.before.before.before.take-field.ensures, c.before.before.before.before.before.before.before.before.start.ensures)
+returns c = rw (c.before.take_field-reverse.ensures, c.before.before.before.take_field-splitdepth.ensures, c.before.before.before.before.before.take_field-width1.ensures, c.before.before.before.before.before.before.before.take_field-width0.ensures, c.before.before.before.before.before.before.before.before.before.take_field-ty.ensures, c.before.before.before.before.before.before.before.before.before.before.before.take_field-basis.ensures, c.before.before.before.before.before.before.before.before.before.before.before.before.before.take_field-degree.ensures, c.before.before.before.before.before.before.before.before.before.before.before.before.before.before.start.ensures)
 
-take-field-requires : tie.Need-take-field-requires
+take-field-requires : tie.Need-take_field-degree-requires
 take-field-requires c κs = omega (arith, start-at c.start.ensures)
 
-take-field-requires-2 : tie.Need-take-field-requires-2
-take-field-requires-2 c κs = omega (arith, near _ _ _ _ (lit< tt) c.take-field.ensures, start-at c.before.start.ensures)
+take-field-requires-2 : tie.Need-take_field-basis-requires
+take-field-requires-2 c κs = omega (arith, near _ _ _ _ (lit< tt) c.before.take_field-degree.ensures, start-at c.before.before.start.ensures)
 
-take-field-requires-3 : tie.Need-take-field-requires-3
-take-field-requires-3 c κs = omega (arith, near _ _ _ _ (lit< tt) c.before.take-field.ensures, near _ _ _ _ (lit< tt) c.take-field2.ensures, start-at c.before.before.start.ensures)
+take-field-requires-3 : tie.Need-take_field-ty-requires
+take-field-requires-3 c κs = omega (arith, near _ _ _ _ (lit< tt) c.before.before.before.take_field-degree.ensures, near _ _ _ _ (lit< tt) c.before.take_field-basis.ensures, start-at c.before.before.before.before.start.ensures)
 
-take-field-requires-4 : tie.Need-take-field-requires-4
-take-field-requires-4 c κs = omega (arith, near _ _ _ _ (lit< tt) c.before.before.take-field.ensures, near _ _ _ _ (lit< tt) c.before.take-field2.ensures, near _ _ _ _ (lit< tt) c.take-field3.ensures, start-at c.before.before.before.start.ensures)
+take-field-requires-4 : tie.Need-take_field-width0-requires
+take-field-requires-4 c κs = omega (arith, near _ _ _ _ (lit< tt) c.before.before.before.before.before.take_field-degree.ensures, near _ _ _ _ (lit< tt) c.before.before.before.take_field-basis.ensures, near _ _ _ _ (lit< tt) c.before.take_field-ty.ensures, start-at c.before.before.before.before.before.before.start.ensures)
 
-take-field-requires-5 : tie.Need-take-field-requires-5
-take-field-requires-5 c κs = omega (arith, near _ _ _ _ (lit< tt) c.before.before.before.take-field.ensures, near _ _ _ _ (lit< tt) c.before.before.take-field2.ensures, near _ _ _ _ (lit< tt) c.before.take-field3.ensures, near _ _ _ _ (lit< tt) c.take-field4.ensures, start-at c.before.before.before.before.start.ensures)
+take-field-requires-5 : tie.Need-take_field-width1-requires
+take-field-requires-5 c κs = omega (arith, near _ _ _ _ (lit< tt) c.before.before.before.before.before.before.before.take_field-degree.ensures, near _ _ _ _ (lit< tt) c.before.before.before.before.before.take_field-basis.ensures, near _ _ _ _ (lit< tt) c.before.before.before.take_field-ty.ensures, near _ _ _ _ (lit< tt) c.before.take_field-width0.ensures, start-at c.before.before.before.before.before.before.before.before.start.ensures)
 
-take-field-requires-6 : tie.Need-take-field-requires-6
-take-field-requires-6 c κs = omega (arith, near _ _ _ _ (lit< tt) c.before.before.before.before.take-field.ensures, near _ _ _ _ (lit< tt) c.before.before.before.take-field2.ensures, near _ _ _ _ (lit< tt) c.before.before.take-field3.ensures, near _ _ _ _ (lit< tt) c.before.take-field4.ensures, near _ _ _ _ (lit< tt) c.take-field5.ensures, start-at c.before.before.before.before.before.start.ensures)
+take-field-requires-6 : tie.Need-take_field-splitdepth-requires
+take-field-requires-6 c κs = omega (arith, near _ _ _ _ (lit< tt) c.before.before.before.before.before.before.before.before.before.take_field-degree.ensures, near _ _ _ _ (lit< tt) c.before.before.before.before.before.before.before.take_field-basis.ensures, near _ _ _ _ (lit< tt) c.before.before.before.before.before.take_field-ty.ensures, near _ _ _ _ (lit< tt) c.before.before.before.take_field-width0.ensures, near _ _ _ _ (lit< tt) c.before.take_field-width1.ensures, start-at c.before.before.before.before.before.before.before.before.before.before.start.ensures)
 
-take-field-requires-7 : tie.Need-take-field-requires-7
-take-field-requires-7 c κs = omega (arith, near _ _ _ _ (lit< tt) c.before.before.before.before.before.take-field.ensures, near _ _ _ _ (lit< tt) c.before.before.before.before.take-field2.ensures, near _ _ _ _ (lit< tt) c.before.before.before.take-field3.ensures, near _ _ _ _ (lit< tt) c.before.before.take-field4.ensures, near _ _ _ _ (lit< tt) c.before.take-field5.ensures, near _ _ _ _ (lit< tt) c.take-field6.ensures, start-at c.before.before.before.before.before.before.start.ensures)
+take-field-requires-7 : tie.Need-take_field-reverse-requires
+take-field-requires-7 c κs = omega (arith, near _ _ _ _ (lit< tt) c.before.before.before.before.before.before.before.before.before.before.before.take_field-degree.ensures, near _ _ _ _ (lit< tt) c.before.before.before.before.before.before.before.before.before.take_field-basis.ensures, near _ _ _ _ (lit< tt) c.before.before.before.before.before.before.before.take_field-ty.ensures, near _ _ _ _ (lit< tt) c.before.before.before.before.before.take_field-width0.ensures, near _ _ _ _ (lit< tt) c.before.before.before.take_field-width1.ensures, near _ _ _ _ (lit< tt) c.before.take_field-splitdepth.ensures, start-at c.before.before.before.before.before.before.before.before.before.before.before.before.start.ensures)
 
-pub read-head-spec : {M : Type 1} → statement M
-read-head-spec = tie.close (tie.spec (λ c κs. tt) take-field-requires take-field-requires-2 take-field-requires-3 take-field-requires-4 take-field-requires-5 take-field-requires-6 take-field-requires-7 returns)
+pub read_head_spec : {M : Type 1} → statement M
+read_head_spec = tie.close (tie.spec (λ c κs. tt) take-field-requires take-field-requires-2 take-field-requires-3 take-field-requires-4 take-field-requires-5 take-field-requires-6 take-field-requires-7 returns)

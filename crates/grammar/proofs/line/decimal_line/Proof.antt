@@ -5,13 +5,13 @@ use Rattle.grammar.specs.Grammar.{decimal_line}
 use Rattle.grammar.proofs.line.decimal_line.Statement.{statement}
 use Rattle.grammar.proofs.line.decimal_line.Tie as tie
 
-returns : tie.Need-returns
+returns : tie.Need-returns-then-stands_at
 unfolding decimal_line
-returns c = rw (← c.before.before.stands_at.ensures, c.before.if1.true, ← c.decimal-at.ensures)
+returns c = rw (← c.before.before.stands_at.ensures, c.before.if-stands_at.true, ← c.decimal_at.ensures)
 
-returns-2 : tie.Need-returns-2
+returns-2 : tie.Need-returns-else-stands_at
 unfolding decimal_line
-returns-2 c = rw (← c.before.stands_at.ensures, c.if1.false)
+returns-2 c = rw (← c.before.stands_at.ensures, c.if-stands_at.false)
 
-pub decimal-line-spec : {M : Type 1} → statement M
-decimal-line-spec = tie.close (tie.spec (λ c κs. search rules) (λ c. search rules) (λ c κs. search rules) returns returns-2)
+pub decimal_line_spec : {M : Type 1} → statement M
+decimal_line_spec = tie.close (tie.spec (λ c κs. search rules) (λ c. search rules) (λ c κs. search rules) returns returns-2)

@@ -5,13 +5,13 @@ use Rattle.grammar.specs.Grammar.{word_line}
 use Rattle.grammar.proofs.line.word_line.Statement.{statement}
 use Rattle.grammar.proofs.line.word_line.Tie as tie
 
-returns : tie.Need-returns
+returns : tie.Need-returns-then-stands_at
 unfolding word_line
-returns c = rw (← c.before.before.stands_at.ensures, c.before.if1.true, ← c.word-line-at.ensures)
+returns c = rw (← c.before.before.stands_at.ensures, c.before.if-stands_at.true, ← c.word_line_at.ensures)
 
-returns-2 : tie.Need-returns-2
+returns-2 : tie.Need-returns-else-stands_at
 unfolding word_line
-returns-2 c = rw (← c.before.stands_at.ensures, c.if1.false)
+returns-2 c = rw (← c.before.stands_at.ensures, c.if-stands_at.false)
 
-pub word-line-spec : {M : Type 1} → statement M
-word-line-spec = tie.close (tie.spec (λ c κs. search rules) (λ c. search rules) (λ c κs. search rules) returns returns-2)
+pub word_line_spec : {M : Type 1} → statement M
+word_line_spec = tie.close (tie.spec (λ c κs. search rules) (λ c. search rules) (λ c κs. search rules) returns returns-2)

@@ -5,13 +5,13 @@ use Rattle.grammar.specs.Grammar.{word_line_at}
 use Rattle.grammar.proofs.line.word_line_at.Statement.{statement}
 use Rattle.grammar.proofs.line.word_line_at.Tie as tie
 
-returns : tie.Need-returns
+returns : tie.Need-returns-then-is_word-is_byte
 unfolding word_line_at
-returns c = rw (← c.before.before.before.is_word.ensures, ← c.before.before.is_byte.ensures, c.before.if1.true, ← c.word_at.ensures)
+returns c = rw (← c.before.before.before.is_word.ensures, ← c.before.before.is_byte.ensures, c.before.if-is_word-is_byte.true, ← c.word_at.ensures)
 
-returns-2 : tie.Need-returns-2
+returns-2 : tie.Need-returns-else-is_word-is_byte
 unfolding word_line_at
-returns-2 c = rw (← c.before.before.is_word.ensures, ← c.before.is_byte.ensures, c.if1.false)
+returns-2 c = rw (← c.before.before.is_word.ensures, ← c.before.is_byte.ensures, c.if-is_word-is_byte.false)
 
-pub word-line-at-spec : {M : Type 1} → statement M
-word-line-at-spec = tie.close (tie.spec (λ c κs. search rules) (λ c. search rules) (λ c κs. tt) (λ c κs. search rules) (λ c. search rules) returns returns-2)
+pub word_line_at_spec : {M : Type 1} → statement M
+word_line_at_spec = tie.close (tie.spec (λ c κs. search rules) (λ c. search rules) (λ c κs. tt) (λ c κs. search rules) (λ c. search rules) returns returns-2)

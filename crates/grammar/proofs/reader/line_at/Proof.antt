@@ -6,13 +6,13 @@ use Rattle.grammar.specs.Grammar.{line_at}
 use Rattle.grammar.proofs.reader.line_at.Statement.{statement}
 use Rattle.grammar.proofs.reader.line_at.Tie as tie
 
-returns : tie.Need-returns
+returns : tie.Need-returns-then-kind-lt-POINT
 unfolding line_at
-returns c = rw (lt-ltb _ _ c.before.if1.true, ← c.head-line.ensures)
+returns c = rw (lt-ltb _ _ c.before.if-kind-lt-POINT.true, ← c.head_line.ensures)
 
-returns-2 : tie.Need-returns-2
+returns-2 : tie.Need-returns-else-kind-lt-POINT
 unfolding line_at
-returns-2 c = rw (le-ltb _ _ c.before.if1.false, ← c.row-line.ensures)
+returns-2 c = rw (le-ltb _ _ c.before.if-kind-lt-POINT.false, ← c.row_line.ensures)
 
-pub line-at-spec : {M : Type 1} → statement M
-line-at-spec = tie.close (tie.spec (λ c κs. search rules) (λ c κs. search rules) returns returns-2)
+pub line_at_spec : {M : Type 1} → statement M
+line_at_spec = tie.close (tie.spec (λ c κs. search rules) (λ c κs. search rules) returns returns-2)

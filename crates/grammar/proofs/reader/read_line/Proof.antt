@@ -251,9 +251,9 @@ read-line-meets {𝓤 = 𝓤} 𝓛 mem run 𝓣 known_next known-move known-take
     walk_Meets 𝓛 reads.ended stayed (Goes-none_slice 𝓛 1 (0 ∷ []) tt (plain (λ _. u8)) yes, (Goes-none 𝓛 1 (λ _. u8) yes (λ κs x f. refl), (Goes-none 𝓛 1 (λ _. usize) yes (λ κs x f. refl), tt))) (reads.clauses 𝓛 mem run)
     (WpFn 𝓤 𝓛.H 𝓣.C 𝓣.Λ code.function) (WpFn-mono 𝓤 𝓛.H 𝓛.laws 𝓣 code.function) (read-line-walks 𝓛 mem run 𝓣.C 𝓣.Λ (fm_of 𝓤 𝓛.H 𝓛.laws 𝓣) known_next known-move known-take)
 
-pub read-line-spec : {M : Type 1} → stated.statement M
+pub read_line_spec : {M : Type 1} → stated.statement M
 unfolding code.routine tables_of
-read-line-spec 𝓤 𝓛 𝓜 𝓡 =
+read_line_spec 𝓤 𝓛 𝓜 𝓡 =
     entered 𝓤 𝓛.H (triple_of 𝓛 reads.signature (reads.spec 𝓛 𝓜.mem 𝓡.run))
     (tables 𝓤 𝓛.H 𝓜 𝓡 code.env).C (tables 𝓤 𝓛.H 𝓜 𝓡 code.env).Λ #grammar·reader·read-line code.function (code.unfolded 𝓤 𝓛.H 𝓜 𝓡)
     (read-line-meets 𝓛 𝓜.mem 𝓡.run (tables_of 𝓤 𝓛.H 𝓜 (tables 𝓤 𝓛.H 𝓜 𝓡 code.env))

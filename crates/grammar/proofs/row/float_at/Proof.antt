@@ -7,7 +7,7 @@ use Rattle.grammar.proofs.row.float_at.Tie as tie
 
 returns : tie.Need-returns
 unfolding float_at
-returns c = rw (c.of-bits.ensures, c.before.word_at.ensures)
+returns c = rw (c.of_bits.ensures, c.before.word_at.ensures)
 
-pub float-at-spec : {M : Type 1} → statement M
-float-at-spec = tie.close (tie.spec (λ c κs. search rules) (λ c κs. tt) returns)
+pub float_at_spec : {M : Type 1} → statement M
+float_at_spec = tie.close (tie.spec (λ c κs. search rules) (λ c κs. tt) returns)

@@ -6,13 +6,13 @@ use Rattle.grammar.specs.Grammar.{separator}
 use Rattle.grammar.proofs.row.separator_of.Statement.{statement}
 use Rattle.grammar.proofs.row.separator_of.Tie as tie
 
-returns : tie.Need-returns
+returns : tie.Need-returns-then-i-n
 unfolding separator
-returns c = rw (eq-eqb _ _ c.if1.true)
+returns c = rw (eq-eqb _ _ c.if-i-n.true)
 
-returns-2 : tie.Need-returns-2
+returns-2 : tie.Need-returns-else-i-n
 unfolding separator
-returns-2 c = rw (ne_eqb _ _ c.if1.false)
+returns-2 c = rw (ne_eqb _ _ c.if-i-n.false)
 
-pub separator-of-spec : {M : Type 1} → statement M
-separator-of-spec = tie.close (tie.spec (λ c. search rules) returns returns-2)
+pub separator_of_spec : {M : Type 1} → statement M
+separator_of_spec = tie.close (tie.spec (λ c. search rules) returns returns-2)

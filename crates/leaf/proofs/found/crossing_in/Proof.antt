@@ -9,5 +9,5 @@ returns : tie.Need-returns
 unfolding crossing_from
 returns c = refl
 
-pub crossing-in-spec : {M : Type 1} → statement M
-crossing-in-spec = tie.close (tie.spec (λ c. search rules) (λ c. search rules) (λ c. search rules) returns)
+pub crossing_in_spec : {M : Type 1} → statement M
+crossing_in_spec = tie.close (tie.spec (λ c. search rules) (λ c. search rules) (λ c. search rules) returns)

@@ -9,5 +9,5 @@ returns : tie.Need-returns
 unfolding distance_from
 returns c = refl
 
-pub distance-in-spec : {M : Type 1} → statement M
-distance-in-spec = tie.close (tie.spec (λ c. search rules) returns)
+pub distance_in_spec : {M : Type 1} → statement M
+distance_in_spec = tie.close (tie.spec (λ c. search rules) returns)

@@ -8,5 +8,5 @@ returns : tie.Need-returns
 unfolding found_floats
 returns c = refl
 
-pub found-floats-spec : {M : Type 1} → statement M
-found-floats-spec = tie.close (tie.spec returns)
+pub found_floats_spec : {M : Type 1} → statement M
+found_floats_spec = tie.close (tie.spec returns)

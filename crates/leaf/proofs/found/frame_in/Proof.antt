@@ -6,7 +6,7 @@ use Rattle.leaf.proofs.found.frame_in.Tie as tie
 
 returns : tie.Need-returns
 unfolding frame_from
-returns c = rw (c.vector-from4.ensures, c.before.before.vector-from3.ensures, c.before.before.before.before.vector-from2.ensures, c.before.before.before.before.before.before.vector-from.ensures)
+returns c = rw (c.vector_from-4.ensures, c.before.before.vector_from-3.ensures, c.before.before.before.before.vector_from-2.ensures, c.before.before.before.before.before.before.vector_from.ensures)
 
-pub frame-in-spec : {M : Type 1} → statement M
-frame-in-spec = tie.close (tie.spec (λ c κs. search rules) (λ c κs. search rules) (λ c κs. search rules) (λ c κs. search rules) returns)
+pub frame_in_spec : {M : Type 1} → statement M
+frame_in_spec = tie.close (tie.spec (λ c κs. search rules) (λ c κs. search rules) (λ c κs. search rules) (λ c κs. search rules) returns)

@@ -7,5 +7,5 @@ use Rattle.leaf.proofs.found.put_first.Tie as tie
 returns : tie.Need-returns
 returns c = refl
 
-pub put-first-spec : {M : Type 1} → statement M
-put-first-spec = tie.close (tie.spec (λ c. search rules) (λ c. search rules) returns)
+pub put_first_spec : {M : Type 1} → statement M
+put_first_spec = tie.close (tie.spec (λ c. search rules) (λ c. search rules) returns)

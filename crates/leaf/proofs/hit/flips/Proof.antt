@@ -4,13 +4,13 @@ use Rattle.leaf.specs.Record.{flips_of}
 use Rattle.leaf.proofs.hit.flips.Statement.{statement}
 use Rattle.leaf.proofs.hit.flips.Tie as tie
 
-returns : tie.Need-returns
+returns : tie.Need-returns-then-reverse_orientation
 unfolding flips_of
-returns c = rw (← c.before.swaps-handedness.ensures, c.if1.true)
+returns c = rw (← c.before.swaps_handedness-swaps.ensures, c.if-reverse_orientation.true)
 
-returns-2 : tie.Need-returns-2
+returns-2 : tie.Need-returns-else-reverse_orientation
 unfolding flips_of
-returns-2 c = rw (← c.before.swaps-handedness.ensures, c.if1.false)
+returns-2 c = rw (← c.before.swaps_handedness-swaps.ensures, c.if-reverse_orientation.false)
 
-pub flips-spec : {M : Type 1} → statement M
-flips-spec = tie.close (tie.spec (λ c κs. search rules) returns returns-2)
+pub flips_spec : {M : Type 1} → statement M
+flips_spec = tie.close (tie.spec (λ c κs. search rules) returns returns-2)

@@ -4,13 +4,13 @@ use Rattle.leaf.specs.Record.{oriented_of}
 use Rattle.leaf.proofs.hit.oriented.Statement.{statement}
 use Rattle.leaf.proofs.hit.oriented.Tie as tie
 
-returns : tie.Need-returns
+returns : tie.Need-returns-then-flip
 unfolding oriented_of
-returns c = rw (← c.before.before.from.ensures, c.before.if1.true, c.mul.ensures)
+returns c = rw (← c.before.before.from-normal.ensures, c.before.if-flip.true, c.mul.ensures)
 
-returns-2 : tie.Need-returns-2
+returns-2 : tie.Need-returns-else-flip
 unfolding oriented_of
-returns-2 c = rw (← c.before.from.ensures, c.if1.false)
+returns-2 c = rw (← c.before.from-normal.ensures, c.if-flip.false)
 
-pub oriented-spec : {M : Type 1} → statement M
-oriented-spec = tie.close (tie.spec (λ c κs. search rules) (λ c κs. search rules) returns returns-2)
+pub oriented_spec : {M : Type 1} → statement M
+oriented_spec = tie.close (tie.spec (λ c κs. search rules) (λ c κs. search rules) returns returns-2)

@@ -6,7 +6,7 @@ use Rattle.leaf.proofs.hit.record_at.Tie as tie
 
 returns : tie.Need-returns
 unfolding record_of
-returns c = rw (c.before.before.before.oriented.ensures, c.before.before.before.before.find-point.ensures, c.before.before.before.before.before.width-at.ensures)
+returns c = rw (c.before.before.before.oriented-n.ensures, c.before.before.before.before.before.find_point-p.ensures, c.before.before.before.before.before.before.width_at-error.ensures)
 
-pub record-at-spec : {M : Type 1} → statement M
-record-at-spec = tie.close (tie.spec (λ c κs. search rules) (λ c κs. search rules) (λ c κs. tt) returns)
+pub record_at_spec : {M : Type 1} → statement M
+record_at_spec = tie.close (tie.spec (λ c κs. search rules) (λ c κs. search rules) (λ c κs. tt) returns)

@@ -5,13 +5,13 @@ use Rattle.leaf.specs.Leaf.{crossing_of}
 use Rattle.leaf.proofs.leaf.cross_leaf.Statement.{statement}
 use Rattle.leaf.proofs.leaf.cross_leaf.Tie as tie
 
-returns : tie.Need-returns
+returns : tie.Need-returns-then-edge_start-edge_end
 unfolding crossing_of subcurve_in
-returns c = rw (← c.before.before.before.before.before.cubic-in.ensures, ← c.before.before.before.before.segment-dir.ensures, ← c.before.before.before.length-squared.ensures, ← c.before.before.edge-start.ensures, ← c.before.edge-end.ensures, c.if1.true)
+returns c = rw (← c.before.before.before.before.before.cubic_in-cp.ensures, ← c.before.before.before.before.segment_dir-dir.ensures, ← c.before.before.before.length_squared-denom.ensures, ← c.before.before.edge_start.ensures, ← c.before.edge_end.ensures, c.if-edge_start-edge_end.true)
 
-returns-2 : tie.Need-returns-2
+returns-2 : tie.Need-returns-else-edge_start-edge_end
 unfolding crossing_of subcurve_in
-returns-2 c = rw (c.cross_at.ensures, c.before.line_at.ensures, ← c.before.before.before.before.before.before.before.cubic-in.ensures, ← c.before.before.before.before.before.before.segment-dir.ensures, ← c.before.before.before.before.before.length-squared.ensures, ← c.before.before.before.before.edge-start.ensures, ← c.before.before.before.edge-end.ensures, c.before.before.if1.false)
+returns-2 c = rw (c.cross_at.ensures, c.before.line_at.ensures, ← c.before.before.before.before.before.before.before.cubic_in-cp.ensures, ← c.before.before.before.before.before.before.segment_dir-dir.ensures, ← c.before.before.before.before.before.length_squared-denom.ensures, ← c.before.before.before.before.edge_start.ensures, ← c.before.before.before.edge_end.ensures, c.before.before.if-edge_start-edge_end.false)
 
-pub cross-leaf-spec : {M : Type 1} → statement M
-cross-leaf-spec = tie.close (tie.spec (λ c κs. tt) (λ c κs. tt) (λ c κs. search rules) (λ c κs. tt) (λ c κs. tt) (λ c κs. tt) (λ c κs. search rules) returns returns-2)
+pub cross_leaf_spec : {M : Type 1} → statement M
+cross_leaf_spec = tie.close (tie.spec (λ c κs. tt) (λ c κs. tt) (λ c κs. search rules) (λ c κs. tt) (λ c κs. tt) (λ c κs. tt) (λ c κs. search rules) returns returns-2)

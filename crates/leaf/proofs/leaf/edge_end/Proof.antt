@@ -8,5 +8,5 @@ returns : tie.Need-returns
 unfolding edge_end
 returns c = refl
 
-pub edge-end-spec : {M : Type 1} → statement M
-edge-end-spec = tie.close (tie.spec returns)
+pub edge_end_spec : {M : Type 1} → statement M
+edge_end_spec = tie.close (tie.spec returns)

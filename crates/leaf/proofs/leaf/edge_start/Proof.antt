@@ -8,5 +8,5 @@ returns : tie.Need-returns
 unfolding edge_start
 returns c = refl
 
-pub edge-start-spec : {M : Type 1} → statement M
-edge-start-spec = tie.close (tie.spec returns)
+pub edge_start_spec : {M : Type 1} → statement M
+edge_start_spec = tie.close (tie.spec returns)

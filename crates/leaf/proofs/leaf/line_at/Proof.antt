@@ -8,5 +8,5 @@ returns : tie.Need-returns
 unfolding line_at
 returns c = rw (c.dot.ensures, c.before.neg.ensures)
 
-pub line-at-spec : {M : Type 1} → statement M
-line-at-spec = tie.close (tie.spec (λ c κs. search rules) (λ c κs. search rules) returns)
+pub line_at_spec : {M : Type 1} → statement M
+line_at_spec = tie.close (tie.spec (λ c κs. search rules) (λ c κs. search rules) returns)

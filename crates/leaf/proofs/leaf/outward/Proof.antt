@@ -4,13 +4,13 @@ use Rattle.leaf.specs.Leaf.{outward_of}
 use Rattle.leaf.proofs.leaf.outward.Statement.{statement}
 use Rattle.leaf.proofs.leaf.outward.Tie as tie
 
-returns : tie.Need-returns
+returns : tie.Need-returns-in-Vector
 unfolding outward_of
-returns c = rw (← c.before.before.before.before.neg.ensures, ← c.before.before.before.normalize.ensures, c.before.wo.given.1)
+returns c = rw (← c.before.before.neg.ensures, ← c.before.normalize.ensures, c.in-Vector.is)
 
-returns-2 : tie.Need-returns-2
+returns-2 : tie.Need-returns-in-ByZero
 unfolding outward_of
-returns-2 c = rw (← c.before.before.before.neg.ensures, ← c.before.before.normalize.ensures, c.enum_told.given.1)
+returns-2 c = rw (← c.before.before.neg.ensures, ← c.before.normalize.ensures, c.in-ByZero.is)
 
-pub outward-spec : {M : Type 1} → statement M
-outward-spec = tie.close (tie.spec (λ c κs. search rules) (λ c κs. search rules) (λ c. search rules) (λ c. search rules) returns returns-2)
+pub outward_spec : {M : Type 1} → statement M
+outward_spec = tie.close (tie.spec (λ c κs. search rules) (λ c κs. search rules) (λ c. search rules) (λ c. search rules) returns returns-2)

@@ -8,5 +8,5 @@ returns : tie.Need-returns
 unfolding segment_dir
 returns c = rw c.sub.ensures
 
-pub segment-dir-spec : {M : Type 1} → statement M
-segment-dir-spec = tie.close (tie.spec (λ c κs. search rules) returns)
+pub segment_dir_spec : {M : Type 1} → statement M
+segment_dir_spec = tie.close (tie.spec (λ c κs. search rules) returns)

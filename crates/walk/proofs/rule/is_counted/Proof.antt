@@ -5,13 +5,13 @@ use Rattle.walk.specs.Rule.{is_counted}
 use Rattle.walk.proofs.rule.is_counted.Statement.{statement}
 use Rattle.walk.proofs.rule.is_counted.Tie as tie
 
-returns : tie.Need-returns
+returns : tie.Need-returns-in-Last
 unfolding is_counted
-returns c = rw c.enum_told.given.1
+returns c = rw c.in-Last.is
 
-returns-2 : tie.Need-returns-2
+returns-2 : tie.Need-returns-in-Nearest
 unfolding is_counted
-returns-2 c = rw c.enum-told2.given.1 (same_is _)
+returns-2 c = rw c.in-Nearest.is (same_is _)
 
-pub is-counted-spec : {M : Type 1} → statement M
-is-counted-spec = tie.close (tie.spec (λ c. search rules) (λ c. search rules) returns returns-2)
+pub is_counted_spec : {M : Type 1} → statement M
+is_counted_spec = tie.close (tie.spec (λ c. search rules) (λ c. search rules) returns returns-2)

@@ -7,20 +7,20 @@ use Rattle.walk.proofs.Rules.{none_ends, no_frame_ends, number_in}
 use Rattle.walk.proofs.rule.is_over.Statement.{statement}
 use Rattle.walk.proofs.rule.is_over.Tie as tie
 
-returns : tie.Need-returns
+returns : tie.Need-returns-in-Last
 unfolding ends last_in crossing_from distance_from
-returns c = rw (c.before.before.before.if1.true, c.before.enum_told.given.1, ← c.distance-in.ensures)
+returns c = rw (c.before.before.if-w-eq-HIT.true, c.before.in-Last.is, ← c.distance_in.ensures)
 
-returns-2 : tie.Need-returns-2
+returns-2 : tie.Need-returns-in-Nearest
 unfolding ends last_in
-returns-2 c = rw (c.before.before.if1.true, c.enum-told2.given.1)
+returns-2 c = rw (c.before.if-w-eq-HIT.true, c.in-Nearest.is)
 
-returns-3 : tie.Need-returns-3
+returns-3 : tie.Need-returns-then-w-eq-MISS
 unfolding last_in
-returns-3 c = rw (c.if2.true, none_ends)
+returns-3 c = rw (c.if-w-eq-MISS.true, none_ends)
 
-returns-4 : tie.Need-returns-4
-returns-4 c = rw (number_in _ _ c.before.before.before.if1.false c.before.before.if2.false, no_frame_ends, ← c.before.distance-in2.ensures, ← c.is-counted.ensures)
+returns-4 : tie.Need-returns-else-w-eq-MISS
+returns-4 c = rw (number_in _ _ c.before.before.before.if-w-eq-HIT.false c.before.before.if-w-eq-MISS.false, no_frame_ends, ← c.before.distance_in-else-w-eq-MISS.ensures, ← c.is_counted.ensures)
 
-pub is-over-spec : {M : Type 1} → statement M
-is-over-spec = tie.close (tie.spec (λ c. search rules) (λ c κs. search rules) (λ c. search rules) (λ c κs. search rules) (λ c κs. tt) returns returns-2 returns-3 returns-4)
+pub is_over_spec : {M : Type 1} → statement M
+is_over_spec = tie.close (tie.spec (λ c. search rules) (λ c κs. search rules) (λ c. search rules) (λ c κs. search rules) (λ c κs. tt) returns returns-2 returns-3 returns-4)

@@ -8,12 +8,12 @@ use Rattle.walk.proofs.Steps.{takes-place}
 use Rattle.walk.proofs.rule.takes_place.Statement.{statement}
 use Rattle.walk.proofs.rule.takes_place.Tie as tie
 
-returns : tie.Need-returns
+returns : tie.Need-returns-then-so_far-eq-MISS
 unfolding takes_place last_in
-returns c = rw (c.before.if1.true, ← c.is-counted.ensures)
+returns c = rw (c.before.if-so_far-eq-MISS.true, ← c.is_counted.ensures)
 
-returns-2 : tie.Need-returns-2
-returns-2 c = c.is-better.ensures ∙ ap (is_better _ _) c.before.distance-in.ensures ∙ sym (takes-place _ _ _ _ c.before.before.if1.false)
+returns-2 : tie.Need-returns-else-so_far-eq-MISS
+returns-2 c = c.is_better.ensures ∙ ap (is_better _ _) c.before.distance_in.ensures ∙ sym (takes-place _ _ _ _ c.before.before.if-so_far-eq-MISS.false)
 
-pub takes-place-spec : {M : Type 1} → statement M
-takes-place-spec = tie.close (tie.spec (λ c κs. tt) (λ c κs. search rules) (λ c κs. tt) returns returns-2)
+pub takes_place_spec : {M : Type 1} → statement M
+takes_place_spec = tie.close (tie.spec (λ c κs. tt) (λ c κs. search rules) (λ c κs. tt) returns returns-2)
