@@ -9,10 +9,10 @@ use Rattle.curve_set.proofs.entries.put_floats.Tie as tie
 
 returns : tie.Need-returns
 unfolding floats_put
-returns c = rw (c.copy-floats3.ensures, c.before.before.before.copy-floats2.ensures, c.before.before.before.before.before.before.copy-floats.ensures) (row_put_lem _ _ _ _ _ c.before.before.before.before.before.before.before.before.before.requires.1 refl (omega arith))
+returns c = rw (c.copy_floats-3.ensures, c.before.before.before.copy_floats-2.ensures, c.before.before.before.before.before.before.before.copy_floats.ensures) (row_put_lem _ _ _ _ _ c.before.before.before.before.before.before.before.before.before.before.requires.1 refl (omega arith))
 
-pub put-floats-spec : {M : Type 1} → statement M
-put-floats-spec =
+pub put_floats_spec : {M : Type 1} → statement M
+put_floats_spec =
     tie.close
     (tie.spec (λ c. search rules) (λ c. search rules) (λ c κs. search rules) (λ c. search rules) (λ c. search rules) (λ c κs. search rules)
     (λ c. search rules) (λ c κs. search rules) returns)
