@@ -10,8 +10,7 @@ seek-requires c κs = omega (arith, c.count-n.ensures, count-le c.before.args.wo
 
 leave-requires : tie.Need-leave-requires
 leave-requires c κs =
-    let n = c.before.before.before.before.before in
-    (c.before.before.if-p-n.true, omega (arith, n.count.ensures, count-le n.args.words.now))
+    (c.if-p-n.true, omega (arith, c.count-n.ensures, count-le c.args.words.now))
 
 returns : tie.Need-returns-then-p-n
 returns c =

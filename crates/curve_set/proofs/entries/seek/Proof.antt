@@ -26,8 +26,8 @@ loop-holds c = (omega arith, λ k l. absurd (omega arith))
 
 returns : tie.Need-returns-then-words-i invariant-loop decreases-loop
 returns c =
-    let l = c.before.before.before in
-    sym (first_found (is l.before) l.before.before.args.n l.before.loop-i.i c.before.before.before.loop-i-test.true l.before.loop-i.invariant.1 (eq-eqb _ _ c.if-words-i.true))
+    let l = c.before.before.before.before in
+    sym (first_found (is l.before) l.before.args.n l.loop-i.i c.loop-i-test.true l.loop-i.invariant.1 (eq-eqb _ _ c.if-words-i.true))
 
 loop-again : tie.Need-loop-i-preserved invariant-loop decreases-loop
 loop-again c =
