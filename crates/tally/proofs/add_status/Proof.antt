@@ -7,7 +7,7 @@ use Rattle.tally.proofs.add_status.Tie as tie
 
 returns : tie.Need-returns
 unfolding counters_after
-returns c = let a = c.before.before.added in rw (← c.before.before.before.kind-of.ensures) (a.ensures.0, ap counters_of a.ensures.1)
+returns c = let a = c.before.before.added-counted in rw (← c.before.before.before.kind_of.ensures) (a.ensures.0, ap counters_of a.ensures.1)
 
-pub add-status-spec : {M : Type 1} → statement M
-add-status-spec = tie.close (tie.spec (λ c. search rules) (λ c. search rules) (λ c. search rules) (λ c. search rules) (λ c κs. search rules) (λ c κs. search rules) returns)
+pub add_status_spec : {M : Type 1} → statement M
+add_status_spec = tie.close (tie.spec (λ c. search rules) (λ c. search rules) (λ c. search rules) (λ c. search rules) (λ c κs. search rules) (λ c κs. search rules) returns)

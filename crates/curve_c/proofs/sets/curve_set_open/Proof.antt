@@ -12,10 +12,10 @@ returns : tie.Need-returns
 unfolding head_given
 returns c =
     let opened = c.before.«open».ensures in
-    let ray = c.before.before.ray-from.ensures in
-    let world = c.before.before.before.before.matrix-from2.ensures in
-    let object = c.before.before.before.before.before.before.matrix-from.ensures in
+    let ray = c.before.before.ray_from.ensures in
+    let world = c.before.before.before.before.matrix_from-2.ensures in
+    let object = c.before.before.before.before.before.before.matrix_from.ensures in
     (rw (c.number_of.ensures, opened.0, ray, world, object), (rw (opened.1.0, ray, world, object), rw (opened.1.1, ray, world, object)))
 
-pub curve-set-open-spec : {M : Type 1} → statement M
-curve-set-open-spec = tie.close (tie.spec (λ c κs. search rules) (λ c κs. search rules) (λ c κs. search rules) (λ c κs. search rules) (λ c κs. tt) returns)
+pub curve_set_open_spec : {M : Type 1} → statement M
+curve_set_open_spec = tie.close (tie.spec (λ c κs. search rules) (λ c κs. search rules) (λ c κs. search rules) (λ c κs. search rules) (λ c κs. tt) returns)

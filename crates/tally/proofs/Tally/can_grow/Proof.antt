@@ -13,5 +13,5 @@ returns : tie.Need-returns
 unfolding can_grow
 returns c = rw (exact c)
 
-pub can-grow-spec : {M : Type 1} → statement M
-can-grow-spec = tie.close (tie.spec (λ c. search rules) (λ c κs. search rules) returns)
+pub can_grow_spec : {M : Type 1} → statement M
+can_grow_spec = tie.close (tie.spec (λ c. search rules) (λ c κs. search rules) returns)

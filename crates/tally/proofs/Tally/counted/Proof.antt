@@ -6,15 +6,15 @@ use Rattle.tally.proofs.Tally.counted.Statement.{statement}
 use Rattle.tally.proofs.Tally.counted.Tie as tie
 
 grown-requires : tie.Need-grown-requires
-grown-requires c κs = sym c.before.can-grow.ensures ∙ c.if1.true
+grown-requires c κs = sym c.before.can_grow.ensures ∙ c.if-can_grow.true
 
-returns : tie.Need-returns
+returns : tie.Need-returns-then-can_grow
 unfolding after
-returns c = rw (← c.before.before.can-grow.ensures, c.before.if1.true) (refl, c.grown.ensures)
+returns c = rw (← c.before.before.can_grow.ensures, c.before.if-can_grow.true) (refl, c.grown.ensures)
 
-returns-2 : tie.Need-returns-2
+returns-2 : tie.Need-returns-else-can_grow
 unfolding after
-returns-2 c = rw (← c.before.can-grow.ensures, c.if1.false) (refl, refl)
+returns-2 c = rw (← c.before.can_grow.ensures, c.if-can_grow.false) (refl, refl)
 
 pub counted_spec : {M : Type 1} → statement M
 counted_spec = tie.close (tie.spec (λ c κs. search rules) grown-requires returns returns-2)
