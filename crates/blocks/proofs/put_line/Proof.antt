@@ -27,10 +27,10 @@ at c =
     let s = told.before.before in
     placed _ _ _ c.before.if-k-eq0.false (subst (λ (r : Reply). s.args.k < line_count r) told.in-Accepted.is s.requires.1)
 
-div-put-met : tie.Need-nonzero-div-put-met
+div-put-met : tie.Need-nonzero_div-k
 div-put-met c = (at c).0
 
-rem-put-met : tie.Need-nonzero-rem-put-met
+rem-put-met : tie.Need-nonzero_rem-k
 rem-put-met c = (at c).0
 
 put-met-requires : tie.Need-put_met-requires

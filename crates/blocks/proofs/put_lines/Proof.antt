@@ -105,7 +105,7 @@ loop-again c =
     let t = put.before.before in
     let i = t.before.loop-next.invariant in
     let s = t.before.before.before.before in
-    (i.0, put.put_line-end.auto.0 ∙ i.1, longer _ _ _ _ _ _ _ _ _ _ s.requires.0 i.2 i.1 (room t).0 (room t).1 put.put_line-end.ensures)
+    (i.0, put.put_line-end.auto.out ∙ i.1, longer _ _ _ _ _ _ _ _ _ _ s.requires.0 i.2 i.1 (room t).0 (room t).1 put.put_line-end.ensures)
 
 returns : tie.Need-returns invariant-loop decreases-loop
 returns c = let i = c.before.loop-next.invariant in (i.2, moved _ _ _ _ _ _ _ _ i.2 i.1 (rw (← i.0) c.loop-next-test.false))

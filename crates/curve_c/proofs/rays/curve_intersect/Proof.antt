@@ -16,7 +16,7 @@ returns c =
     let world = ray.before.before in
     let object = world.before.before in
     let s = object.before.before.before in
-    let e : met.intersect-met.result ≡ met_by s.args.piece.now s.args.object-to-world.now s.args.world-to-object.now s.args.reverse s.args.ray.now =
+    let e : met.intersect-met.result ≡ met_by s.args.piece.now s.args.object_to_world.now s.args.world_to_object.now s.args.reverse s.args.ray.now =
     rw (met.intersect-met.ensures, ray.ray_from.ensures, world.matrix_from-2.ensures, object.matrix_from.ensures) in
     (put.0 ∙ ap met_number e, (put.1.0 ∙ ap (λ (x : Intersection). record_after x s.args.«record».now) e, put.1.1 ∙ ap (λ (x : Intersection). looked_after x s.args.looked.now) e))
 

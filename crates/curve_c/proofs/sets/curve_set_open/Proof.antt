@@ -11,7 +11,7 @@ use Rattle.curve_c.proofs.sets.curve_set_open.Tie as tie
 returns : tie.Need-returns
 unfolding head_given
 returns c =
-    let opened = c.before.«open».ensures in
+    let opened = c.before.open-opened.ensures in
     let ray = c.before.before.ray_from.ensures in
     let world = c.before.before.before.before.matrix_from-2.ensures in
     let object = c.before.before.before.before.before.before.matrix_from.ensures in
