@@ -14,7 +14,7 @@ from pathlib import Path
 
 from support import EXAMPLES, TOOLS
 
-PROGRAM = TOOLS.parent / "crates" / "beltbeam" / "out" / "beltbeam"
+PROGRAM = TOOLS.parent / "target" / "bin" / "beltbeam"
 STRAIGHT = (EXAMPLES / "straight.sheet").read_bytes()
 STRAIGHT_REPORT = b"pieces=1\nbeam=0 piece=0 looked=1 hit=1 t=40800000 u=3f000000 v=3f000000\n"
 BEAM = STRAIGHT.splitlines(keepends=True)[-1]
@@ -62,7 +62,7 @@ def without_waiting(end: int) -> int:
     return end
 
 
-@unittest.skipUnless(PROGRAM.exists(), "beltbeam is not built: run `rt run` in crates/beltbeam first")
+@unittest.skipUnless(PROGRAM.exists(), "beltbeam is not built: run `tools/build beltbeam` first")
 class Beltbeam(unittest.TestCase):
     long_report = b""
 
