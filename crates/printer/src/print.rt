@@ -1,5 +1,6 @@
 // The report of a sheet, written block by block. The first write that fails is the last.
-ghost use Rattle.std.specs.Prelude.{◌≡◌, ◌+◌, ◌<◌, ◌^◌, length};
+ghost use Rattle.std.specs.Prelude.{◌≡◌, ◌+◌, ◌-◌, ◌<◌, ◌≤◌, ◌^◌, length, take};
+ghost use Rattle.std.specs.Io.KnownBytes.{Appends};
 ghost use Rattle.blocks.specs.Blocks.{Sound, rest_of};
 ghost use Rattle.blocks.specs.Report.{report_of};
 ghost use Rattle.printer.specs.Printed.{goes_on, Follows, Writes};
@@ -29,7 +30,9 @@ fn goes_on(printed: Printed, left: Rest) -> bool
 // The one place where the report is written.
 fn write_block<W: Write>(out: &mut W, printed: Printed, block: &[u8]) -> Printed
     requires { printed.bytes + length block.now < 2 ^ 64 }
-    ensures { Follows printed block.now result }
+    ensures follows { Follows printed block.now result }
+    ensures more { printed.bytes ≤ result.bytes }
+    ensures bytes { Appends (W.contents out.old) (W.contents out.new) (take (result.bytes - printed.bytes) block.now) }
 {
     let t = transfer::write(out, block);
     let stand = t.stand;
@@ -42,7 +45,8 @@ fn write_block<W: Write>(out: &mut W, printed: Printed, block: &[u8]) -> Printed
 // What is left of a report, by way of a buffer that is lent.
 fn write_report<W: Write>(out: &mut W, buf: &mut [u8], list: &[f32; ROOM], rest: Rest) -> Printed
     requires { Sound rest × (length buf.old ≡ 65536) }
-    ensures { Writes (rest_of list.now rest) result }
+    ensures writes { Writes (rest_of list.now rest) result }
+    ensures bytes { Appends (W.contents out.old) (W.contents out.new) (take result.bytes (rest_of list.now rest)) }
 {
     let mut left = rest;
     let mut printed = Printed {
@@ -68,7 +72,8 @@ fn explain_refusal<E: Write>(err: &mut E, reply: Reply, bytes: &[u8]) {
 
 // Prints the report of a sheet's bytes, and says on the other writer what is amiss.
 pub fn print_sheet<W: Write, E: Write>(out: &mut W, err: &mut E, bytes: &[u8]) -> Printed
-    ensures { Writes (report_of bytes.now) result }
+    ensures writes { Writes (report_of bytes.now) result }
+    ensures bytes { Appends (W.contents out.old) (W.contents out.new) (take result.bytes (report_of bytes.now)) }
 {
     let mut list = [0.0f32; ROOM];
     let mut buf = [0u8; 65536];
