@@ -89,7 +89,7 @@ enum {
  * needs at least half of its figure.
  */
 enum {
-    CURVE_STACK_CREATE = 512,
+    CURVE_STACK_CREATE = 256,
     CURVE_STACK_OBJECT_BOUND = 256,
     CURVE_STACK_WORLD_BOUND = 512,
     CURVE_STACK_AREA = 256,
