@@ -1,9 +1,5 @@
 -- `curve_c::sets::curve_set_open` meets its contract. Assumes nothing.
-use mathlib.Core.Path.{◌≡◌, ap, ◌∙◌}
 use borrow.Author.Rules.{rules}
-use Rattle.curve_set.specs.Answer.{changed_number}
-use Rattle.curve_set.specs.Layout.{Head, head_by}
-use Rattle.curve_set.specs.Set.{open_answer, open_floats, open_words}
 use Rattle.curve_c.specs.Calls.{head_given}
 use Rattle.curve_c.proofs.sets.curve_set_open.Statement.{statement}
 use Rattle.curve_c.proofs.sets.curve_set_open.Tie as tie

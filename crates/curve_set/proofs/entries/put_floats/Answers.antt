@@ -1,7 +1,6 @@
 -- `curve_set::put_floats` meets its contract: each return rewrites by the facts on its way. Assumes nothing.
 use mathlib.Core.Path.{refl}
 use native.Mathlib.Omega.{arith}
-use borrow.Author.Rules.{rules}
 use Rattle.curve_set.specs.Layout.{floats_put}
 use Rattle.curve_set.proofs.Edit.{row_put_lem}
 use Rattle.curve_set.proofs.entries.put_floats.Goals as goal

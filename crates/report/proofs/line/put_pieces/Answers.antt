@@ -1,5 +1,4 @@
 -- `report::line::put_pieces` meets its contract: its parts are put one behind the other. Assumes nothing.
-use borrow.Author.Rules.{rules}
 use Rattle.text.specs.Ascii.{ascii}
 use Rattle.text.proofs.Puts.{then}
 use Rattle.report.specs.Printed.{pieces_text}
