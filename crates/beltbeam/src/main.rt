@@ -3,8 +3,11 @@
 // nothing is printed, and where a write fails nothing more: a sentence on standard error says which.
 #![tactic(auto)]
 
+ghost use Rattle.std.specs.Prelude.{IfSome};
+ghost use Rattle.beltbeam.specs.Beltbeam.{Prints};
+
 use printer::print_sheet;
-use std::io::{Stderr, Stdin, Stdout};
+use std::io::{Read, Write};
 use transfer::{Stand, fail};
 
 // So much is read off behind a sheet that is too long, so that whoever writes it into a pipe can finish.
@@ -12,7 +15,9 @@ const READ_OFF: usize = 1048576;
 
 // One byte more than a sheet may have tells that it is too long: then the bytes are all full, and the end of
 // the input has not come.
-fn run(input: &mut Stdin, out: &mut Stdout, err: &mut Stderr) {
+fn run<R: Read, W: Write, E: Write>(input: &mut R, out: &mut W, err: &mut E)
+    ensures { IfSome (R.remaining input.old) (λ sheet. Prints sheet (W.contents out.old) (W.contents out.new)) }
+{
     let mut bytes = [0u8; 65537];
     let t = transfer::read(input, &mut bytes);
     let n = t.done;
