@@ -1,7 +1,7 @@
 /*
  * Flat curves and rays: where a scanner's beam meets a curved belt.
  *
- * Link with target/staticlib/libcurve_c.a (x86-64), which `rt staticlib curve_c` proves and writes; or, where
+ * Link with target/staticlib/libcurve_c.a (x86-64), which `tools/build curve_c` proves and writes; or, where
  * tools/install put it, with what `pkg-config --cflags --libs curve_c` says.
  *
  * Every function ends, for every input, and returns CURVE_DONE with its answer, or the number of a refusal.
@@ -89,7 +89,7 @@ enum {
  * needs at least half of its figure.
  */
 enum {
-    CURVE_STACK_CREATE = 512,
+    CURVE_STACK_CREATE = 256,
     CURVE_STACK_OBJECT_BOUND = 256,
     CURVE_STACK_WORLD_BOUND = 512,
     CURVE_STACK_AREA = 256,

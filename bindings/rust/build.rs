@@ -30,6 +30,6 @@ fn wanted() -> PathBuf {
 
 fn missing(dir: &Path) -> ! {
     eprintln!("There is no {FILE} in {}.", dir.display());
-    eprintln!("Run `rt staticlib curve_c` in the repository, or set CURVE_LIB_DIR to the folder that holds it.");
+    eprintln!("Run `tools/build curve_c` in the repository, or set CURVE_LIB_DIR to the folder that holds it.");
     exit(1)
 }

@@ -27,7 +27,7 @@ def find_program(given: str | None) -> str:
     found = shutil.which(beside) or shutil.which(built) or shutil.which("beltbeam")
     if not found:
         raise BadInput(
-            "beltbeam is not found: build it by rt check beltbeam,"
+            "beltbeam is not found: build it by tools/build beltbeam,"
             f" or name it by --beltbeam or in {VARIABLE}"
         )
     return found

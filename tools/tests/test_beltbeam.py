@@ -62,7 +62,7 @@ def without_waiting(end: int) -> int:
     return end
 
 
-@unittest.skipUnless(PROGRAM.exists(), "beltbeam is not built: run `rt check beltbeam` first")
+@unittest.skipUnless(PROGRAM.exists(), "beltbeam is not built: run `tools/build beltbeam` first")
 class Beltbeam(unittest.TestCase):
     long_report = b""
 

@@ -129,7 +129,7 @@ class Run(unittest.TestCase):
         return run("run", HALL, *arguments, tool=tools / "belt", env=environment)
 
     def test_where_the_program_is_looked_for(self) -> None:
-        missing = "belt: beltbeam is not found: build it by rt check beltbeam, or name it"
+        missing = "belt: beltbeam is not found: build it by tools/build beltbeam, or name it"
         self.check_bad(self.elsewhere(PATH=str(self.folder)), 2, missing)
         report = text_of(DATA / "hall.report")
         self.printing(report).rename(self.folder / "beltbeam")

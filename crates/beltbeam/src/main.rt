@@ -3,34 +3,42 @@
 // nothing is printed, and where a write fails nothing more: a sentence on standard error says which.
 #![tactic(auto)]
 
-use libc::{STDERR_FILENO, STDIN_FILENO};
+ghost use Rattle.std.specs.Prelude.{IfSome};
+ghost use Rattle.beltbeam.specs.Beltbeam.{Prints};
+
 use printer::print_sheet;
-use transfer::Stand;
+use std::io::{Read, Write};
+use transfer::{Stand, fail};
 
 // So much is read off behind a sheet that is too long, so that whoever writes it into a pipe can finish.
 const READ_OFF: usize = 1048576;
 
 // One byte more than a sheet may have tells that it is too long: then the bytes are all full, and the end of
 // the input has not come.
-fn main() {
+fn run<R: Read, W: Write, E: Write>(input: &mut R, out: &mut W, err: &mut E)
+    ensures { IfSome (R.remaining input.old) (λ sheet. Prints sheet (W.contents out.old) (W.contents out.new)) }
+{
     let mut bytes = [0u8; 65537];
-    let t = transfer::read(STDIN_FILENO, &mut bytes);
+    let t = transfer::read(input, &mut bytes);
     let n = t.done;
-    let stand = t.stand;
-    match stand {
+    match t.stand {
         Stand::Nothing => {
-            print_sheet(&bytes[..n]);
+            print_sheet(out, err, &bytes[..n]);
         }
         Stand::Open => {
-            print_sheet(&bytes[..n]);
-            transfer::skip(STDIN_FILENO, &mut bytes, READ_OFF);
+            print_sheet(out, err, &bytes[..n]);
+            transfer::skip(input, &mut bytes, READ_OFF);
         }
         Stand::Interrupted => {
             transfer::write(
-                STDERR_FILENO,
+                err,
                 b"the sheet is not read, 100 reads in a row were interrupted\n",
             );
         }
-        Stand::Failed => os::fail(b"the sheet is not read, a read failed"),
+        Stand::Failed(error) => fail(err, b"the sheet is not read, a read failed", error),
     }
+}
+
+fn main(rt: HostRuntime) {
+    run(&mut rt.stdin(), &mut rt.stdout(), &mut rt.stderr());
 }

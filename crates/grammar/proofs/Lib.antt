@@ -1,4 +1,3 @@
 pub mod Fields
 pub mod Floats
-pub mod Returned
 pub mod Runs

@@ -13,7 +13,6 @@ use Rattle.bisection.proofs.Below.{IsFirst, IsLast, first_is, last_is}
 use Rattle.bisection.proofs.Nodes.{open_iff, open_bound}
 use Rattle.curve.specs.declared.curve.Curve.{Curve}
 use Rattle.frame.specs.declared.frame.View.{View}
-use Rattle.frame.specs.declared.frame.Framed.TheVariants as framed
 use Rattle.overlap.specs.declared.subcurve.Subcurve.{Subcurve}
 use Rattle.overlap.specs.Subcurve.{low_half, high_half}
 use Rattle.leaf.specs.declared.leaf.Crossing.{Crossing}

@@ -22,7 +22,6 @@ use Rattle.overlap.specs.declared.subcurve.Subcurve.{Subcurve}
 use Rattle.leaf.specs.declared.leaf.Crossing.{Crossing}
 use Rattle.leaf.specs.declared.leaf.Crossed.{Crossed}
 use Rattle.leaf.specs.declared.leaf.Crossed.TheVariants.{At, Nowhere}
-use Rattle.leaf.specs.declared.leaf.Frame.{Frame}
 use Rattle.leaf.specs.declared.leaf.Framing.{Framing}
 use Rattle.leaf.specs.declared.leaf.Framing.TheVariants as framing
 use Rattle.leaf.specs.declared.leaf.Leaf.{Leaf}

@@ -10,11 +10,9 @@ fn pattern(i: u32) -> u32 {
 // Fills a list as it is before the call.
 pub fn fill(list: &mut [f32]) {
     let mut i = 0u32;
-    let mut at = 0usize;
-    while at < list.len() {
-        list[at] = float::of_bits(pattern(i));
-        at += 1;
-        i = std::num::wrapping_add_u32(i, 1);
+    for x in list.iter_mut() {
+        *x = float::of_bits(pattern(i));
+        i = i.wrapping_add(1);
     }
 }
 
@@ -23,17 +21,14 @@ fn hash_word(h: u64, word: u32) -> u64 {
     let x = h ^ word as u64;
     let low = x % 0x1_0000_0000 * 0x1b3;
     let high = x / 0x1_0000_0000 % 0x1_0000_0000 * 0x1b3 % 0x1_0000_0000;
-    let product = std::num::wrapping_add_u64(low, high << 32);
-    std::num::wrapping_add_u64(product, x << 40)
+    low.wrapping_add(high << 32).wrapping_add(x << 40)
 }
 
 // The hash of a list.
 pub fn hash(list: &[f32]) -> u64 {
     let mut h = 0xcbf2_9ce4_8422_2325u64;
-    let mut i = 0usize;
-    while i < list.len() {
-        h = hash_word(h, float::to_bits(list[i]));
-        i += 1;
+    for x in list {
+        h = hash_word(h, float::to_bits(*x));
     }
     h
 }

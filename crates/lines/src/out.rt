@@ -17,10 +17,8 @@ pub fn put_word(out: &mut Out, at: usize, word: u32) -> usize {
 // Puts floats by their bits.
 pub fn put_floats(out: &mut Out, at: usize, floats: &[f32]) -> usize {
     let mut end = at;
-    let mut i = 0usize;
-    while i < floats.len() {
-        end = put_word(out, end, float::to_bits(floats[i]));
-        i += 1;
+    for x in floats {
+        end = put_word(out, end, float::to_bits(*x));
     }
     end
 }

@@ -1,5 +1,5 @@
 // Lines of words in hexadecimal, a byte at a time. Each word is kept as it stands and as the float that has its bits.
-use libc::STDOUT_FILENO;
+use std::io::Write;
 use text::digit;
 
 // Room for the words of any line.
@@ -55,23 +55,21 @@ pub fn take_byte(b: u8, words: &mut Words, floats: &mut Floats, s: Scan) -> Step
     }
 }
 
-fn print_word(word: u32) {
-    io::print_hex(STDOUT_FILENO, word as u64, 8);
-    io::write_all(STDOUT_FILENO, b" ");
+// A write that fails is not told: what stands on standard output is short of it.
+fn print_word<W: Write>(out: &mut W, word: u32) {
+    let _ = write!(out, "{word:08x} ");
 }
 
-fn print_word_at(words: &Words, i: usize) {
+fn print_word_at<W: Write>(out: &mut W, words: &Words, i: usize) {
     if i < LINE_WORDS {
-        print_word(words[i]);
+        print_word(out, words[i]);
     }
 }
 
 // Prints a line that differs.
-pub fn print_line(words: &Words, n: usize) {
-    let mut i = 0usize;
-    while i < n {
-        print_word_at(words, i);
-        i += 1;
+pub fn print_line<W: Write>(out: &mut W, words: &Words, n: usize) {
+    for i in 0..n {
+        print_word_at(out, words, i);
     }
-    io::write_all(STDOUT_FILENO, b"differs\n");
+    let _ = out.write_all(b"differs\n");
 }

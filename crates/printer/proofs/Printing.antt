@@ -1,16 +1,15 @@
 -- A report that is handed over block by block: what was written, and what is left. Assumes nothing.
-use mathlib.Core.Bool.{true, false, not, and-eq-true_iff}
-use mathlib.Core.List.{List}
-use mathlib.Core.Path.{◌≡◌, sym, ap, ◌∙◌}
-use Prim.Native.Nat.{ℕ, ◌+◌, ◌*◌, ◌≤◌, ◌<◌}
-use native.Mathlib.Omega.{arith}
+use Rattle.std.proofs.Common.{◌≡◌, ℕ, ◌+◌, ◌-◌, ◌*◌, ◌≤◌, ◌<◌, true, false, not, List, ◌++◌, length, take, drop, eqb, sym, ap, ◌∙◌, arith, length-append, length-drop, refl, drop-drop}
+use Rattle.std.proofs.Math.Seq.{drop-append_seam}
+use Rattle.std.specs.Prelude.{Float, Option}
+use Rattle.std.specs.Io.KnownBytes.{Appends}
+use Rattle.std.proofs.Math.Seq.{length-take-le}
+use Rattle.std.proofs.lemmas.List.{take-append-le}
+use mathlib.Core.Bool.{and-eq-true_iff}
 use borrow.Author.Tests.{not-true, not-false, eqb-true, eqb-false}
-use lib.Dec.{eqb}
-use lib.Ieee.{Float}
-use lib.ListN.{length, take, length-append}
-use lib.Seq.{length-take-le}
 use Rattle.transfer.specs.Transfer.{is_open}
 use Rattle.transfer.specs.declared.Stand.TheVariants.{Open}
+use Rattle.transfer.proofs.Bytes.{appends_more}
 use Rattle.blocks.specs.Blocks.{line_count, lines_text, Sound, lines_left, rest_of, IsBlock}
 use Rattle.blocks.specs.declared.Block.{Block}
 use Rattle.blocks.specs.declared.Rest.{Rest}
@@ -23,7 +22,7 @@ pub record Handed (list : List Float) (first left : Rest) (p : Printed) : Type 0
   pub sound : Sound left
   pub small : p.bytes + 65536 * lines_left left ≤ 65536 * 65537
   pub at_most : p.bytes + length (rest_of list left) ≤ length (rest_of list first)
-  pub all : is_open p.stand ≡ true → p.bytes + length (rest_of list left) ≡ length (rest_of list first)
+  pub behind : is_open p.stand ≡ true → drop p.bytes (rest_of list first) ≡ rest_of list left
 
 -- what a test says
 module _ (p : Printed) (left : Rest) where
@@ -39,7 +38,7 @@ module _ (p : Printed) (left : Rest) where
 module _ (list : List Float) (first : Rest) where
   pub none_yet : Sound first → Handed list first first (record { bytes = 0; stand = Open })
   unfolding lines_left
-  none_yet s = record { sound = s; small = omega (arith, lines_few first.reply s.0); at_most = omega arith; all = λ _. omega arith }
+  none_yet s = record { sound = s; small = omega (arith, lines_few first.reply s.0); at_most = omega arith; behind = λ _. refl }
 
   -- one block more
   pub next : (left : Rest) (p q : Printed) (d x : List ℕ) (b : Block) → Handed list first left p → goes_on p left ≡ true → length d ≡ 65536 → length x ≡ length d
@@ -48,12 +47,24 @@ module _ (list : List Float) (first : Rest) where
       let o = (going p left Going-on).0 in
       let size : length (take b.end x) ≡ b.end = length-take-le b.end x (omega (arith, block.inside)) in
       let parts : length (take b.end x) + length (rest_of list b.rest) ≡ length (rest_of list left) = sym (length-append (take b.end x) (rest_of list b.rest)) ∙ ap length block.whole in
+      let here : drop p.bytes (rest_of list first) ≡ take b.end x ++ rest_of list b.rest = h.behind o ∙ sym block.whole in
       record {
         sound = block.sound;
         small = omega (arith, h.small, wrote.no_more, block.inside);
         at_most = omega (arith, h.at_most, wrote.no_more);
-        all = λ o'. omega (arith, h.all o, wrote.whole o');
+        behind = λ o'. rw (wrote.whole o', ← drop-drop (length (take b.end x)) p.bytes (rest_of list first), here) (drop-append_seam (take b.end x) (rest_of list b.rest));
       }
+
+  -- and its bytes
+  pub more_bytes : (left : Rest) (p q : Printed) (d x : List ℕ) (b : Block) (was now new : Option (List ℕ)) → Handed list first left p → goes_on p left ≡ true → IsBlock list left d x b
+      → Follows p (take b.end x) q → p.bytes ≤ q.bytes → Appends was now (take p.bytes (rest_of list first)) → Appends now new (take (q.bytes - p.bytes) (take b.end x))
+      → Appends was new (take q.bytes (rest_of list first))
+  more_bytes left p q d x b was now new h Going-on block wrote more before here =
+      let o = (going p left Going-on).0 in
+      let few : q.bytes - p.bytes ≤ length (take b.end x) = omega (arith, wrote.no_more) in
+      let at : drop p.bytes (rest_of list first) ≡ take b.end x ++ rest_of list b.rest = h.behind o ∙ sym block.whole in
+      let same : take (q.bytes - p.bytes) (drop p.bytes (rest_of list first)) ≡ take (q.bytes - p.bytes) (take b.end x) = ap (take (q.bytes - p.bytes)) at ∙ take-append-le (q.bytes - p.bytes) (take b.end x) (rest_of list b.rest) few in
+      appends_more was now new (rest_of list first) p.bytes q.bytes more before (rw same here)
 
   -- nothing is left
   left_none : (left : Rest) → Sound left → lines_left left ≡ 0 → length (rest_of list left) ≡ 0
@@ -63,4 +74,7 @@ module _ (list : List Float) (first : Rest) where
       ap length (ap (lines_text left.rays list left.reply left.next) end ∙ no_lines left.rays list left.reply left.next)
 
   pub written : (left : Rest) (p : Printed) → Handed list first left p → goes_on p left ≡ false → Writes (rest_of list first) p
-  written left p h stop = record { at_most = omega (arith, h.at_most); all = λ o. omega (arith, h.all o, left_none left h.sound (over p left stop o)) }
+  written left p h stop = record {
+    at_most = omega (arith, h.at_most);
+    all = λ o. omega (arith, h.at_most, length-drop p.bytes (rest_of list first), ap length (h.behind o), left_none left h.sound (over p left stop o));
+  }

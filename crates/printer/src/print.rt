@@ -1,13 +1,14 @@
 // The report of a sheet, written block by block. The first write that fails is the last.
-ghost use Rattle.std.specs.Prelude.{◌≡◌, ◌+◌, ◌<◌, ◌^◌, length};
+ghost use Rattle.std.specs.Prelude.{◌≡◌, ◌+◌, ◌-◌, ◌<◌, ◌≤◌, ◌^◌, length, take};
+ghost use Rattle.std.specs.Io.KnownBytes.{Appends};
 ghost use Rattle.blocks.specs.Blocks.{Sound, rest_of};
 ghost use Rattle.blocks.specs.Report.{report_of};
 ghost use Rattle.printer.specs.Printed.{goes_on, Follows, Writes};
 
 use crate::explain::{explain, tell};
 use blocks::{ROOM, Rest, is_done, put_block};
-use libc::STDOUT_FILENO;
 use sheet::Reply;
+use std::io::Write;
 use transfer::{Stand, is_open};
 
 // How many bytes of a report were written, and how the last write stands.
@@ -27,11 +28,13 @@ fn goes_on(printed: Printed, left: Rest) -> bool
 }
 
 // The one place where the report is written.
-fn write_block(printed: Printed, block: &[u8]) -> Printed
+fn write_block<W: Write>(out: &mut W, printed: Printed, block: &[u8]) -> Printed
     requires { printed.bytes + length block.now < 2 ^ 64 }
-    ensures { Follows printed block.now result }
+    ensures follows { Follows printed block.now result }
+    ensures more { printed.bytes ≤ result.bytes }
+    ensures bytes { Appends (W.contents out.old) (W.contents out.new) (take (result.bytes - printed.bytes) block.now) }
 {
-    let t = transfer::write(STDOUT_FILENO, block);
+    let t = transfer::write(out, block);
     let stand = t.stand;
     Printed {
         bytes: printed.bytes + t.done,
@@ -40,9 +43,10 @@ fn write_block(printed: Printed, block: &[u8]) -> Printed
 }
 
 // What is left of a report, by way of a buffer that is lent.
-fn write_report(out: &mut [u8], list: &[f32; ROOM], rest: Rest) -> Printed
-    requires { Sound rest × (length out.old ≡ 65536) }
-    ensures { Writes (rest_of list.now rest) result }
+fn write_report<W: Write>(out: &mut W, buf: &mut [u8], list: &[f32; ROOM], rest: Rest) -> Printed
+    requires { Sound rest × (length buf.old ≡ 65536) }
+    ensures writes { Writes (rest_of list.now rest) result }
+    ensures bytes { Appends (W.contents out.old) (W.contents out.new) (take result.bytes (rest_of list.now rest)) }
 {
     let mut left = rest;
     let mut printed = Printed {
@@ -50,32 +54,33 @@ fn write_report(out: &mut [u8], list: &[f32; ROOM], rest: Rest) -> Printed
         stand: Stand::Open,
     };
     while goes_on(printed, left) {
-        let block = put_block(out, list, left);
+        let block = put_block(buf, list, left);
         let end = block.end;
-        printed = write_block(printed, &out[..end]);
+        printed = write_block(out, printed, &buf[..end]);
         left = block.rest;
     }
     printed
 }
 
 // A refused sheet has a sentence besides.
-fn explain_refusal(reply: Reply, bytes: &[u8]) {
+fn explain_refusal<E: Write>(err: &mut E, reply: Reply, bytes: &[u8]) {
     match reply {
         Reply::Accepted(_, _, _) => {}
-        Reply::Refused(number, line) => explain(number, line, bytes),
+        Reply::Refused(number, line) => explain(err, number, line, bytes),
     }
 }
 
-// Prints the report of a sheet's bytes.
-pub fn print_sheet(bytes: &[u8]) -> Printed
-    ensures { Writes (report_of bytes.now) result }
+// Prints the report of a sheet's bytes, and says on the other writer what is amiss.
+pub fn print_sheet<W: Write, E: Write>(out: &mut W, err: &mut E, bytes: &[u8]) -> Printed
+    ensures writes { Writes (report_of bytes.now) result }
+    ensures bytes { Appends (W.contents out.old) (W.contents out.new) (take result.bytes (report_of bytes.now)) }
 {
     let mut list = [0.0f32; ROOM];
-    let mut out = io::large_buffer();
+    let mut buf = [0u8; 65536];
     let rest = blocks::open(bytes, &mut list);
     let reply = rest.reply;
-    let printed = write_report(&mut out, &list, rest);
-    tell(printed);
-    explain_refusal(reply, bytes);
+    let printed = write_report(out, &mut buf, &list, rest);
+    tell(err, printed);
+    explain_refusal(err, reply, bytes);
     printed
 }

@@ -24,12 +24,10 @@ fn is_same_at(kind: Kind, words: &Words, inputs: usize, out: &Out, k: usize) -> 
 }
 
 fn is_same(kind: Kind, words: &Words, inputs: usize, out: &Out, count: usize) -> bool {
-    let mut k = 0usize;
-    while k < count {
+    for k in 0..count {
         if !is_same_at(kind, words, inputs, out, k) {
             return false;
         }
-        k += 1;
     }
     true
 }

@@ -2,14 +2,15 @@
 // kind with the number of answers that were compared and that differ. A difference prints its line.
 #![tactic(auto)]
 
-use libc::STDOUT_FILENO;
-
 mod compare;
 mod scan;
 
 use answers::Kind;
 use lines::{Floats, LINE_WORDS, Words};
 use scan::Tally;
+use std::fs::File;
+use std::io::{Read, Write};
+use transfer::{fail, number_of};
 
 // Reads once, and answers whether to go on.
 #[derive(Clone, Copy)]
@@ -18,76 +19,73 @@ struct Turn {
     goes_on: bool,
 }
 
-fn read_some(fd: i32, kind: Kind, words: &mut Words, floats: &mut Floats, tally: Tally) -> Turn {
-    let mut buf = io::large_buffer();
-    let got = libc::read(fd, &mut buf);
-    if got <= 0 {
-        return Turn {
-            tally,
-            goes_on: false,
-        };
-    }
-    let n = io::count(got, &buf);
-    let after = scan::scan_bytes(kind, &buf[..n], words, floats, tally);
+fn read_some<W: Write>(
+    out: &mut W,
+    file: &mut File,
+    kind: Kind,
+    words: &mut Words,
+    floats: &mut Floats,
+    tally: Tally,
+) -> Turn {
+    let mut buf = [0u8; 65536];
+    let n = file.read(&mut buf).unwrap_or(0);
+    let after = scan::scan_bytes(out, kind, &buf[..n], words, floats, tally);
     Turn {
         tally: after,
-        goes_on: true,
+        goes_on: n > 0,
     }
 }
 
-// A proved loop has to end, and nothing says that a file does: the turns are counted down from a
-// number that no run uses up.
-fn read_all(fd: i32, kind: Kind) -> Tally {
+// A proved loop has to end, and nothing says that a file does: the turns are counted up to a number
+// that no run reaches.
+fn read_all<W: Write>(out: &mut W, file: &mut File, kind: Kind) -> Tally {
     let mut words = [0u32; LINE_WORDS];
     let mut floats = [0.0f32; LINE_WORDS];
     let mut tally = scan::start();
-    let mut turns = u64::MAX;
-    while turns > 0 {
-        let turn = read_some(fd, kind, &mut words, &mut floats, tally);
+    for _ in 0..u64::MAX {
+        let turn = read_some(out, file, kind, &mut words, &mut floats, tally);
         tally = turn.tally;
         if !turn.goes_on {
             return tally;
         }
-        turns -= 1;
     }
     tally
 }
 
-fn replay(kind: Kind, path: &[u8]) {
-    let fd = os::open_read(path);
-    if fd < 0 {
-        os::fail(path);
-        return;
-    }
-    let tally = read_all(fd, kind);
-    libc::close(fd);
-    io::write_all(STDOUT_FILENO, path);
-    io::write_all(STDOUT_FILENO, b": ");
-    io::print_decimal(STDOUT_FILENO, tally.lines);
-    io::write_all(STDOUT_FILENO, b" compared, ");
-    io::print_decimal(STDOUT_FILENO, tally.differ);
-    io::write_all(STDOUT_FILENO, b" differ\n");
+// A write that fails is not told: what stands on standard output is short of it.
+fn compare_file<W: Write>(out: &mut W, file: &mut File, kind: Kind, path: &str) {
+    let tally = read_all(out, file, kind);
+    let lines = tally.lines;
+    let differ = tally.differ;
+    let _ = writeln!(out, "{path}: {lines} compared, {differ} differ");
 }
 
-fn main() {
-    replay(Kind::Sqrt, b"sqrt.txt");
-    replay(Kind::Narrow, b"narrow.txt");
-    replay(Kind::RoundProduct, b"round_product.txt");
-    replay(Kind::Cross, b"cross.txt");
-    replay(Kind::Normalize, b"normalize.txt");
-    replay(Kind::CoordinateSystem, b"coordinate_system.txt");
-    replay(Kind::Inverse, b"inverse.txt");
-    replay(Kind::TransformPoint, b"transform_point.txt");
-    replay(Kind::TransformRayError, b"transform_ray_error.txt");
-    replay(Kind::TransformBounds, b"transform_bounds.txt");
-    replay(Kind::SwapsHandedness, b"swaps_handedness.txt");
-    replay(Kind::LookAt, b"look_at.txt");
-    replay(Kind::Corners, b"corners.txt");
-    replay(Kind::Area, b"area.txt");
-    replay(Kind::Price, b"price.txt");
-    replay(Kind::ObjectBound, b"object_bound.txt");
-    replay(Kind::WorldBound, b"world_bound.txt");
-    replay(Kind::CreateCurveShape, b"create_curve_shape.txt");
-    replay(Kind::Intersect, b"intersect.txt");
-    replay(Kind::Nearest, b"nearest.txt");
+fn replay(rt: &HostRuntime, kind: Kind, path: &str) {
+    match File::open(rt, path) {
+        Ok(mut file) => compare_file(&mut rt.stdout(), &mut file, kind, path),
+        Err(error) => fail(&mut rt.stderr(), path.as_bytes(), number_of(&error)),
+    }
+}
+
+fn main(rt: HostRuntime) {
+    replay(&rt, Kind::Sqrt, "sqrt.txt");
+    replay(&rt, Kind::Narrow, "narrow.txt");
+    replay(&rt, Kind::RoundProduct, "round_product.txt");
+    replay(&rt, Kind::Cross, "cross.txt");
+    replay(&rt, Kind::Normalize, "normalize.txt");
+    replay(&rt, Kind::CoordinateSystem, "coordinate_system.txt");
+    replay(&rt, Kind::Inverse, "inverse.txt");
+    replay(&rt, Kind::TransformPoint, "transform_point.txt");
+    replay(&rt, Kind::TransformRayError, "transform_ray_error.txt");
+    replay(&rt, Kind::TransformBounds, "transform_bounds.txt");
+    replay(&rt, Kind::SwapsHandedness, "swaps_handedness.txt");
+    replay(&rt, Kind::LookAt, "look_at.txt");
+    replay(&rt, Kind::Corners, "corners.txt");
+    replay(&rt, Kind::Area, "area.txt");
+    replay(&rt, Kind::Price, "price.txt");
+    replay(&rt, Kind::ObjectBound, "object_bound.txt");
+    replay(&rt, Kind::WorldBound, "world_bound.txt");
+    replay(&rt, Kind::CreateCurveShape, "create_curve_shape.txt");
+    replay(&rt, Kind::Intersect, "intersect.txt");
+    replay(&rt, Kind::Nearest, "nearest.txt");
 }

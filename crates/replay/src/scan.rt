@@ -2,6 +2,7 @@
 use crate::compare::holds;
 use answers::Kind;
 use lines::{Floats, Scan, Step, Words};
+use std::io::Write;
 
 // Where the scan is, and how many lines were compared and differ.
 #[derive(Clone, Copy)]
@@ -19,8 +20,15 @@ pub fn start() -> Tally {
     }
 }
 
-fn end_line(kind: Kind, words: &Words, floats: &Floats, n: usize, t: Tally) -> Tally {
-    let lines = std::num::wrapping_add_u64(t.lines, 1);
+fn end_line<W: Write>(
+    out: &mut W,
+    kind: Kind,
+    words: &Words,
+    floats: &Floats,
+    n: usize,
+    t: Tally,
+) -> Tally {
+    let lines = t.lines.wrapping_add(1);
     if holds(kind, words, floats, n) {
         return Tally {
             scan: lines::start(),
@@ -28,26 +36,34 @@ fn end_line(kind: Kind, words: &Words, floats: &Floats, n: usize, t: Tally) -> T
             differ: t.differ,
         };
     }
-    lines::print_line(words, n);
+    lines::print_line(out, words, n);
     Tally {
         scan: lines::start(),
         lines,
-        differ: std::num::wrapping_add_u64(t.differ, 1),
+        differ: t.differ.wrapping_add(1),
     }
 }
 
-fn step(kind: Kind, b: u8, words: &mut Words, floats: &mut Floats, t: Tally) -> Tally {
+fn step<W: Write>(
+    out: &mut W,
+    kind: Kind,
+    b: u8,
+    words: &mut Words,
+    floats: &mut Floats,
+    t: Tally,
+) -> Tally {
     match lines::take_byte(b, words, floats, t.scan) {
         Step::More(scan) => Tally {
             scan,
             lines: t.lines,
             differ: t.differ,
         },
-        Step::End(n) => end_line(kind, words, floats, n, t),
+        Step::End(n) => end_line(out, kind, words, floats, n, t),
     }
 }
 
-pub fn scan_bytes(
+pub fn scan_bytes<W: Write>(
+    out: &mut W,
     kind: Kind,
     bytes: &[u8],
     words: &mut Words,
@@ -55,10 +71,8 @@ pub fn scan_bytes(
     t: Tally,
 ) -> Tally {
     let mut at = t;
-    let mut i = 0usize;
-    while i < bytes.len() {
-        at = step(kind, bytes[i], words, floats, at);
-        i += 1;
+    for b in bytes {
+        at = step(out, kind, *b, words, floats, at);
     }
     at
 }

@@ -3,7 +3,6 @@
 // at each call. No proof rests on the entries, so there is no contract.
 #![tactic(auto)]
 
-
 // The line under the root over a part: in the upper half its start, in 1 / 2^8, and in the lower
 // half its slope, in 1 / 2^32.
 pub fn chord(part: u32) -> u64 {

@@ -1,85 +1,90 @@
 // Prints the report of each stored sheet, under its name.
 #![tactic(auto)]
 
-use libc::STDOUT_FILENO;
+use printer::print_sheet;
+use std::fs::File;
+use std::io::{Stderr, Stdout, Write};
+use transfer::{fail, number_of};
 
-fn run(path: &[u8]) {
-    let fd = os::open_read(path);
-    if fd < 0 {
-        os::fail(path);
-        return;
-    }
+// Reads at most one byte more than a sheet may have. A write that fails is not told here: what stands
+// on standard output is short of it.
+fn print_file(out: &mut Stdout, err: &mut Stderr, file: &mut File, path: &str) {
     let mut bytes = [0u8; 65537];
-    let n = io::read_full(fd, &mut bytes);
-    libc::close(fd);
-    io::write_all(STDOUT_FILENO, path);
-    io::write_all(STDOUT_FILENO, b":\n");
-    printer::print_sheet(&bytes[..n]);
+    let n = transfer::read(file, &mut bytes).done;
+    let _ = writeln!(out, "{path}:");
+    print_sheet(out, err, &bytes[..n]);
+}
+
+fn run(rt: &HostRuntime, path: &str) {
+    match File::open(rt, path) {
+        Ok(mut file) => print_file(&mut rt.stdout(), &mut rt.stderr(), &mut file, path),
+        Err(error) => fail(&mut rt.stderr(), path.as_bytes(), number_of(&error)),
+    }
 }
 
 // Belts and their beams.
-fn run_curves() {
-    run(b"straight.sheet");
-    run(b"three-crossings.sheet");
-    run(b"spiral.sheet");
-    run(b"zero.sheet");
-    run(b"deep.sheet");
-    run(b"no-pieces.sheet");
-    run(b"split10.sheet");
+fn run_curves(rt: &HostRuntime) {
+    run(rt, "straight.sheet");
+    run(rt, "three-crossings.sheet");
+    run(rt, "spiral.sheet");
+    run(rt, "zero.sheet");
+    run(rt, "deep.sheet");
+    run(rt, "no-pieces.sheet");
+    run(rt, "split10.sheet");
 }
 
 // Each refusal of a beam that a sheet can reach.
-fn run_refused_rays() {
-    run(b"refused_11.sheet");
-    run(b"refused_13.sheet");
-    run(b"refused_14.sheet");
-    run(b"width100.sheet");
-    run(b"refused_15_at_zero.sheet");
-    run(b"refused_16.sheet");
-    run(b"refused_16_direction.sheet");
+fn run_refused_rays(rt: &HostRuntime) {
+    run(rt, "refused_11.sheet");
+    run(rt, "refused_13.sheet");
+    run(rt, "refused_14.sheet");
+    run(rt, "width100.sheet");
+    run(rt, "refused_15_at_zero.sheet");
+    run(rt, "refused_16.sheet");
+    run(rt, "refused_16_direction.sheet");
 }
 
 // Each refusal of laying that a sheet can reach.
-fn run_refused_curves() {
-    run(b"refused_1.sheet");
-    run(b"refused_3.sheet");
-    run(b"refused_22.sheet");
-    run(b"refused_22_before_4.sheet");
-    run(b"refused_4.sheet");
-    run(b"refused_4_before_5.sheet");
-    run(b"split11.sheet");
-    run(b"refused_6.sheet");
-    run(b"refused_7.sheet");
-    run(b"refused_7_wide.sheet");
+fn run_refused_curves(rt: &HostRuntime) {
+    run(rt, "refused_1.sheet");
+    run(rt, "refused_3.sheet");
+    run(rt, "refused_22.sheet");
+    run(rt, "refused_22_before_4.sheet");
+    run(rt, "refused_4.sheet");
+    run(rt, "refused_4_before_5.sheet");
+    run(rt, "split11.sheet");
+    run(rt, "refused_6.sheet");
+    run(rt, "refused_7.sheet");
+    run(rt, "refused_7_wide.sheet");
 }
 
 // A wrong line of each kind.
-fn run_wrong_lines() {
-    run(b"empty.sheet");
-    run(b"wrong_line_1.sheet");
-    run(b"wrong_line_2.sheet");
-    run(b"wrong_line_3.sheet");
-    run(b"wrong_line_4.sheet");
-    run(b"wrong_line_5.sheet");
-    run(b"wrong_line_6.sheet");
-    run(b"wrong_line_7.sheet");
-    run(b"wrong_line_8.sheet");
-    run(b"wrong_line_12.sheet");
+fn run_wrong_lines(rt: &HostRuntime) {
+    run(rt, "empty.sheet");
+    run(rt, "wrong_line_1.sheet");
+    run(rt, "wrong_line_2.sheet");
+    run(rt, "wrong_line_3.sheet");
+    run(rt, "wrong_line_4.sheet");
+    run(rt, "wrong_line_5.sheet");
+    run(rt, "wrong_line_6.sheet");
+    run(rt, "wrong_line_7.sheet");
+    run(rt, "wrong_line_8.sheet");
+    run(rt, "wrong_line_12.sheet");
 }
 
 // Lines that are missing, or are too many.
-fn run_wrong_ends() {
-    run(b"missing_line_8.sheet");
-    run(b"beam_before_points.sheet");
-    run(b"point_after_beam.sheet");
-    run(b"beams_65.sheet");
-    run(b"last_line_without_lf.sheet");
+fn run_wrong_ends(rt: &HostRuntime) {
+    run(rt, "missing_line_8.sheet");
+    run(rt, "beam_before_points.sheet");
+    run(rt, "point_after_beam.sheet");
+    run(rt, "beams_65.sheet");
+    run(rt, "last_line_without_lf.sheet");
 }
 
-fn main() {
-    run_curves();
-    run_refused_rays();
-    run_refused_curves();
-    run_wrong_lines();
-    run_wrong_ends();
+fn main(rt: HostRuntime) {
+    run_curves(&rt);
+    run_refused_rays(&rt);
+    run_refused_curves(&rt);
+    run_wrong_lines(&rt);
+    run_wrong_ends(&rt);
 }

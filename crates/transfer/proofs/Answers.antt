@@ -1,18 +1,16 @@
 -- What a test of an answer's or an error's bits says of the number. Assumes nothing.
 use mathlib.Core.Bool.{true, false, true≢false}
 use mathlib.Core.Path.{◌≡◌, refl}
-use Prim.Native.Nat.{ℕ, zero, suc, ◌+◌, ◌<◌, ◌^◌}
+use Prim.Native.Nat.{zero, suc, ◌+◌}
 use native.Mathlib.Omega.{arith}
 use borrow.Author.Tests.{ltb-true, eq-eqb, ne_eqb}
 use lib.IntN.{ℤ, pos, negsuc, nat_abs}
-use lib.Dec.{T}
-use lib.Signed.{lt_z, non_neg}
+use lib.Signed.{lt_z}
 use mir.Syntax.{w32, w64}
-use mir.Val.{SFits, to_z, of_z}
-use mir.ValLaws.{to_z-of_z}
+use mir.Val.{SFits, of_z}
 use Rattle.transfer.specs.declared.Stand.TheVariants.{Open, Nothing}
 use Rattle.transfer.specs.declared.Transfer.{Transfer}
-use Rattle.transfer.specs.Transfer.{counted, is_interruption, stopped_at, after_failure, after_call}
+use Rattle.transfer.specs.Transfer.{is_interruption, stopped_at, after_failure, after_call}
 
 -- ---- the error's number
 
@@ -43,12 +41,3 @@ module _ (t : Transfer) (error : ℤ) where
   some (pos zero) h z = absurd (z refl)
   some (pos (suc k)) h z = refl
   some (negsuc k) h z = absurd (true≢false h)
-
--- an answer that is not negative is the count that its bits say
-pub uncounted : (done : ℕ) (got : ℤ) → SFits w64 got → lt_z (to_z w64 (of_z w64 got)) (pos 0) ≡ false → done + counted got < 2 ^ 64
-    → T (non_neg (to_z w64 (of_z w64 got))) × (done + nat_abs (to_z w64 (of_z w64 got)) < 2 ^ 64)
-uncounted done got f h room = rw (to_z-of_z w64 got f) (plain got (rw (to_z-of_z w64 got f) at h) room)
-  where
-    plain : (z : ℤ) → lt_z z (pos 0) ≡ false → done + counted z < 2 ^ 64 → T (non_neg z) × (done + nat_abs z < 2 ^ 64)
-    plain (pos k) n r = (tt, r)
-    plain (negsuc k) n r = absurd (true≢false n)

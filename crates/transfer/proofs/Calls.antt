@@ -12,10 +12,9 @@ use lib.Signed.{mag}
 use mir.Syntax.{w64}
 use mir.Val.{to_z, of_z}
 use mir.ValLaws.{to_z-of_z}
-use Rattle.libc.specs.Io.{Moved}
 use Rattle.transfer.specs.declared.Stand.TheVariants.{Open, Interrupted, Failed}
 use Rattle.transfer.specs.declared.Transfer.{Transfer}
-use Rattle.transfer.specs.Transfer.{is_open, most_interruptions, counted, is_interruption, stopped_at, interrupted_again, after_failure, after_call, start, Within, Answered, is_due, Reached, at-start, behind_call, Ended}
+use Rattle.transfer.specs.Transfer.{is_open, most_interruptions, counted, is_interruption, stopped_at, interrupted_again, after_failure, after_call, start, Moved, Within, Answered, is_due, Reached, at-start, behind_call, Ended}
 
 -- ---- one call
 
@@ -65,7 +64,7 @@ module _ (n : ℕ) (t : Transfer) (due : is_due n t ≡ true) where
   is_open_lem : is_open t.stand ≡ true
   is_open_lem = ((and-eq-true_iff (is_open t.stand) (ltb t.done n)).0 due).0
 
-  more : t.done < n
+  pub more : t.done < n
   more = ltb-true t.done n ((and-eq-true_iff (is_open t.stand) (ltb t.done n)).0 due).1
 
   pub within : Kept n t → Within n t
@@ -85,7 +84,7 @@ module _ (n : ℕ) (t : Transfer) (due : is_due n t ≡ true) where
     again true h = (record { done_kept = w.done_within; open_kept = λ _. ltb-true _ _ h }, omega (arith, left_now, ltb-true (t.interrupted + 1) most_interruptions h))
     again false h = stops _ refl refl
 
-    failure : (error : ℤ) (b : Bool) → Brought n t (cond b (interrupted_again t.done (t.interrupted + 1)) (stopped_at t.done Failed))
+    failure : (error : ℤ) (b : Bool) → Brought n t (cond b (interrupted_again t.done (t.interrupted + 1)) (stopped_at t.done (Failed error)))
     unfolding interrupted_again
     failure error true = again _ refl
     failure error false = stops _ refl refl

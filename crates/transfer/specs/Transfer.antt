@@ -1,6 +1,6 @@
--- How a transfer goes on by what the system's read or write answers, and where it stops. Definitions only.
-use Rattle.std.specs.Prelude.{ℕ, zero, suc, ◌+◌, ◌-◌, ◌≤◌, ◌<◌, Bool, true, false, ◌&&◌, cond, ◌≡◌, eqb, ltb, ℤ, pos, negsuc}
-use Rattle.libc.specs.Io.{Moved}
+-- How a transfer goes on by what a reader's read or a writer's write answers, and where it stops. Definitions only.
+use Rattle.std.specs.Prelude.{ℕ, zero, suc, ◌+◌, ◌-◌, ◌≤◌, ◌<◌, Bool, true, false, ◌&&◌, cond, ◌≡◌, eqb, ltb, ℤ, pos, negsuc, Option, List, length}
+use Rattle.std.specs.Io.KnownBytes.{Consumes}
 use Rattle.transfer.specs.declared.Stand.{Stand}
 use Rattle.transfer.specs.declared.Stand.TheVariants.{Open, Nothing, Interrupted, Failed}
 use Rattle.transfer.specs.declared.Transfer.{Transfer}
@@ -9,7 +9,7 @@ abbrev pub is_open : Stand → Bool
 is_open Open = true
 is_open Nothing = false
 is_open Interrupted = false
-is_open Failed = false
+is_open (Failed error) = false
 
 -- so many interruptions in a row end a transfer
 abbrev pub most_interruptions : ℕ
@@ -33,9 +33,9 @@ unfoldable pub interrupted_again : ℕ → ℕ → Transfer
 interrupted_again done n = record { done = done; interrupted = n; stand = cond (ltb n most_interruptions) Open Interrupted }
 
 unfoldable pub after_failure : Transfer → ℤ → Transfer
-after_failure t error = cond (is_interruption error) (interrupted_again t.done (t.interrupted + 1)) (stopped_at t.done Failed)
+after_failure t error = cond (is_interruption error) (interrupted_again t.done (t.interrupted + 1)) (stopped_at t.done (Failed error))
 
--- the transfer behind a call: by its answer, and by errno where it failed
+-- the transfer behind a call: by its answer, and by the error's number where it failed
 unfoldable pub after_call : Transfer → ℤ → ℤ → Transfer
 after_call t (negsuc k) error = after_failure t error
 after_call t (pos zero) error = stopped_at t.done Nothing
@@ -43,6 +43,11 @@ after_call t (pos (suc k)) error = stopped_at (t.done + suc k) Open
 
 abbrev pub start : Transfer
 start = stopped_at 0 Open
+
+-- what a call that is handed n bytes may answer: -1, or how many bytes it moved, at most n
+abbrev pub Moved : ℕ → ℤ → Type 0
+Moved n (pos k) = k ≤ n
+Moved n (negsuc k) = k ≡ 0
 
 -- a transfer of n bytes, which can be called for
 pub record Within (n : ℕ) (t : Transfer) : Type 0 where
@@ -68,3 +73,7 @@ pub data Reached (n : ℕ) : Transfer → Type 0 where
 -- such a transfer that is at its end
 abbrev pub Ended : ℕ → Transfer → Type 0
 Ended n r = Reached n r × (is_due n r ≡ false)
+
+-- so many bytes are read off, where they are known
+abbrev pub Skips : Option (List ℕ) → Option (List ℕ) → ℕ → Type 0
+Skips old new n = (bs : List ℕ) × (length bs ≡ n) × Consumes old new bs

@@ -9,7 +9,7 @@ use Rattle.blocks.proofs.is_done.Tie as tie
 
 returns : tie.Need-returns
 unfolding lines_left
-returns c = let count = c.before in ap (λ (k : ℕ). eqb (k - count.before.args.left.next) 0) count.line-count.ensures
+returns c = let count = c.before in ap (λ (k : ℕ). eqb (k - count.before.args.left.next) 0) count.line_count.ensures
 
-pub is-done-spec : {M : Type 1} → statement M
-is-done-spec = tie.close (tie.spec (λ c κs. search rules) (λ c. search rules) returns)
+pub is_done_spec : {M : Type 1} → statement M
+is_done_spec = tie.close (tie.spec (λ c κs. search rules) (λ c. search rules) returns)

@@ -9,20 +9,20 @@ use Rattle.blocks.proofs.Lines.{lines_few}
 use Rattle.blocks.proofs.line_count.Statement.{statement}
 use Rattle.blocks.proofs.line_count.Tie as tie
 
-mul-result : tie.Need-overflow-mul-result
+mul-result : tie.Need-overflow_mul-result
 mul-result c =
-    let told = c.before in
-    let few = subst (λ (r : Reply). line_count r ≤ 65537) told.reply.given.1 (lines_few told.before.before.args.reply told.before.before.requires) in
+    let told = c in
+    let few = subst (λ (r : Reply). line_count r ≤ 65537) told.in-Accepted.is (lines_few told.before.args.reply told.before.requires) in
     record { fits = omega arith }
 
-add_result_lem : tie.Need-overflow-add-result
+add_result_lem : tie.Need-overflow_add-result
 add_result_lem c =
-    let told = c.before in
-    let few = subst (λ (r : Reply). line_count r ≤ 65537) told.reply.given.1 (lines_few told.before.before.args.reply told.before.before.requires) in
+    let told = c in
+    let few = subst (λ (r : Reply). line_count r ≤ 65537) told.in-Accepted.is (lines_few told.before.args.reply told.before.requires) in
     record { fits = omega arith }
 
-returns : tie.Need-returns
-returns c = ap line_count (sym c.before.reply.given.1)
+returns : tie.Need-returns-in-Accepted
+returns c = ap line_count (sym c.in-Accepted.is)
 
-pub line-count-spec : {M : Type 1} → statement M
-line-count-spec = tie.close (tie.spec (λ c. search rules) (λ c. search rules) mul-result add_result_lem (λ c. search rules) returns (λ c. search rules))
+pub line_count_spec : {M : Type 1} → statement M
+line_count_spec = tie.close (tie.spec (λ c. search rules) (λ c. search rules) mul-result add_result_lem (λ c. search rules) returns (λ c. search rules))

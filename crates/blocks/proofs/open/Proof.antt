@@ -9,7 +9,7 @@ use Rattle.blocks.proofs.open.Tie as tie
 
 returns : tie.Need-returns
 returns c =
-    let read = c.before.read-sheet in
+    let read = c.before.read_sheet-read in
     ((subst (λ (x : Sheet). Small x.reply) (sym read.ensures.0) (reply_small _ _), omega arith), all_left _ _ _ _ read.ensures.0 read.ensures.1)
 
 pub open_spec : {M : Type 1} → statement M

@@ -8,7 +8,7 @@ returns : tie.Need-returns
 returns c =
     let put = c.before.before in
     let s = put.before.before.before.before.before in
-    (is_block _ _ _ _ _ _ _ put.put-lines.ensures.0 s.requires.0, fewer_left _ _ _ _ _ _ _ put.put-lines.ensures.0 put.put-lines.ensures.1)
+    (is_block _ _ _ _ _ _ _ put.put_lines-put.ensures.0 s.requires.0, fewer_left _ _ _ _ _ _ _ put.put_lines-put.ensures.0 put.put_lines-put.ensures.1)
 
-pub put-block-spec : {M : Type 1} → statement M
-put-block-spec = tie.close (tie.spec (λ c κs. search rules) (λ c. search rules) returns)
+pub put_block_spec : {M : Type 1} → statement M
+put_block_spec = tie.close (tie.spec (λ c κs. search rules) (λ c. search rules) returns)

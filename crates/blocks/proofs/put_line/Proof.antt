@@ -18,32 +18,32 @@ use Rattle.blocks.proofs.put_line.Statement.{statement}
 use Rattle.blocks.proofs.put_line.Tie as tie
 
 -- which ray and which curve
-at : (c : tie.After-put-met-arg) →
-    let told = c.before.before.before in
-    let s = told.before.before.before in
-    (0 < told.reply.given.0.0) × ((s.args.k - 1) / told.reply.given.0.0 < told.reply.given.0.1.1.0) × ((s.args.k - 1) % told.reply.given.0.0 < told.reply.given.0.0)
+at : (c : tie.After-put_met-arg-1) →
+    let told = c.before.before in
+    let s = told.before.before in
+    (0 < told.in-Accepted.pieces) × ((s.args.k - 1) / told.in-Accepted.pieces < told.in-Accepted.field-2) × ((s.args.k - 1) % told.in-Accepted.pieces < told.in-Accepted.pieces)
 at c =
-    let told = c.before.before.before in
-    let s = told.before.before.before in
-    placed _ _ _ c.before.if1.false (subst (λ (r : Reply). s.args.k < line_count r) told.reply.given.1 s.requires.1)
+    let told = c.before.before in
+    let s = told.before.before in
+    placed _ _ _ c.before.if-k-eq0.false (subst (λ (r : Reply). s.args.k < line_count r) told.in-Accepted.is s.requires.1)
 
-div-put-met : tie.Need-nonzero-div-put-met
+div-put-met : tie.Need-nonzero_div-k
 div-put-met c = (at c).0
 
-rem-put-met : tie.Need-nonzero-rem-put-met
+rem-put-met : tie.Need-nonzero_rem-k
 rem-put-met c = (at c).0
 
-put-met-requires : tie.Need-put-met-requires
+put-met-requires : tie.Need-put_met-requires
 put-met-requires c κs =
-    let told = c.before.before.before in
-    let few = subst Small told.reply.given.1 told.before.before.before.requires.0 in
+    let told = c.before.before in
+    let few = subst Small told.in-Accepted.is told.before.before.requires.0 in
     let here = at c in
     (omega (arith, here.1, few.1), omega (arith, here.2, few.0))
 
-cast-put-refused-sheet : tie.Need-overflow-cast-put-refused-sheet
+cast-put-refused-sheet : tie.Need-overflow_cast-line
 cast-put-refused-sheet c =
-    let told = c.before.before in
-    let few = subst Small told.reply2.given.1 told.before.before.before.requires.0 in
+    let told = c.before in
+    let few = subst Small told.in-Refused.is told.before.before.requires.0 in
     record { fits = omega (arith, few.1) }
 
 module _ (rays list : List Float) {reply : Reply} where
@@ -56,26 +56,26 @@ module _ (rays list : List Float) {reply : Reply} where
   only : (k : ℕ) {number line : ℕ} → reply ≡ Refused number line → refused_sheet_text number line ≡ line_text rays list reply k
   only k e = rw e
 
-returns : tie.Need-returns
+returns : tie.Need-returns-then-k-eq0
 returns c =
     let put = c.before.before in
-    let told = put.before.before.before.before in
-    renamed (first _ _ told.reply.given.1 put.before.before.if1.true) put.put-pieces.ensures
+    let told = put.before.before.before in
+    renamed (first _ _ told.in-Accepted.is put.before.before.if-k-eq0.true) put.put_pieces.ensures
 
-returns-2 : tie.Need-returns-2
+returns-2 : tie.Need-returns-else-k-eq0
 returns-2 c =
     let put = c.before.before in
-    let told = put.before.before.before.before in
-    renamed (later _ _ told.reply.given.1 put.before.before.if1.false) put.put-met.ensures
+    let told = put.before.before.before in
+    renamed (later _ _ told.in-Accepted.is put.before.before.if-k-eq0.false) put.put_met.ensures
 
-returns-3 : tie.Need-returns-3
+returns-3 : tie.Need-returns-in-Refused
 returns-3 c =
     let put = c.before.before in
-    let told = put.before.before.before in
-    renamed (only _ _ _ told.reply2.given.1) put.put-refused-sheet.ensures
+    let told = put.before.before in
+    renamed (only _ _ _ told.in-Refused.is) put.put_refused_sheet.ensures
 
-pub put-line-spec : {M : Type 1} → statement M
-put-line-spec =
+pub put_line_spec : {M : Type 1} → statement M
+put_line_spec =
     tie.close
     (tie.spec (λ c. search rules) (λ c κs. tt) (λ c. search rules) (λ c. search rules) div-put-met (λ c. search rules) rem-put-met put-met-requires (λ c. search rules) cast-put-refused-sheet (λ c κs. tt)
     (λ c. search rules) returns (λ c. search rules) returns-2 (λ c. search rules) returns-3)

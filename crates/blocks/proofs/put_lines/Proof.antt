@@ -22,11 +22,11 @@ use Rattle.blocks.proofs.Lines.{line_most, lines_few, no_lines, lines_next}
 use Rattle.blocks.proofs.put_lines.Statement.{statement}
 use Rattle.blocks.proofs.put_lines.Tie as tie
 
-abbrev invariant-loop : tie.invariant-loop
+abbrev invariant-loop : tie.invariant-loop-next
 invariant-loop out₀ rays list reply from count end₀ next₀ out end next =
     (count ≡ line_count reply) × (length out ≡ length out₀) × LinesPut rays list reply from out₀ out (record { next = next; end = end })
 
-abbrev decreases-loop : tie.decreases-loop
+abbrev decreases-loop : tie.decreases-loop-next
 decreases-loop out₀ rays list reply from count end₀ next₀ out end next = count - next
 
 module _ (rays list : List Float) (reply : Reply) (from : ℕ) (d : List ℕ) where
@@ -69,14 +69,14 @@ module _ (rays list : List Float) (reply : Reply) (from : ℕ) (d : List ℕ) wh
     | inr l ↦ l
   ]
 
-line-count-requires : tie.Need-line-count-requires invariant-loop decreases-loop
+line-count-requires : tie.Need-line_count-count-requires invariant-loop decreases-loop
 line-count-requires c κs = c.before.requires.0
 
-loop-holds : tie.Need-loop-init invariant-loop decreases-loop
-loop-holds c = let s = c.before.before in (c.line-count.ensures, refl, no_block _ _ _ _ _ s.requires.1)
+loop-holds : tie.Need-loop-next-init invariant-loop decreases-loop
+loop-holds c = let s = c.before.before in (c.line_count-count.ensures, refl, no_block _ _ _ _ _ s.requires.1)
 
-sub-loop : tie.Need-overflow-sub-loop invariant-loop decreases-loop
-sub-loop c = let i = c.loop.invariant in omega (arith, i.1, i.2.end_inside)
+sub-loop : tie.Need-overflow_sub-out invariant-loop decreases-loop
+sub-loop c = let i = c.loop-next.invariant in omega (arith, i.1, i.2.end_inside)
 
 -- what the test says
 tested : (next count n k : ℕ) → count ≡ n → (ltb next count && leb longest k) ≡ true → (next < n) × (longest ≤ k)
@@ -84,31 +84,31 @@ tested next count n k e h =
     let both = (and-eq-true_iff (ltb next count) (leb longest k)).0 h in
     (omega (arith, ltb-true next count both.0), leb-true longest k both.1)
 
-room : (c : tie.In-loop invariant-loop decreases-loop) → (c.before.loop.next < line_count c.before.before.before.before.args.reply) × (longest ≤ length c.before.loop.out - c.before.loop.end)
-room c = tested _ _ _ _ c.before.loop.invariant.0 c.loop-test.true
+room : (c : tie.In-loop-next invariant-loop decreases-loop) → (c.before.loop-next.next < line_count c.before.before.before.before.args.reply) × (longest ≤ length c.before.loop-next.out - c.before.loop-next.end)
+room c = tested _ _ _ _ c.before.loop-next.invariant.0 c.loop-next-test.true
 
-put-line-requires : tie.Need-put-line-requires invariant-loop decreases-loop
+put-line-requires : tie.Need-put_line-end-requires invariant-loop decreases-loop
 put-line-requires c κs = (c.before.before.before.before.before.requires.0, (room c.before).0)
 
-add-next : tie.Need-overflow-add-next invariant-loop decreases-loop
+add-next : tie.Need-overflow_add-next invariant-loop decreases-loop
 add-next c =
     let t = c.before.before.before.before in
     let s = t.before.before.before.before in
     record { fits = omega (arith, (room t).0, lines_few s.args.reply s.requires.0) }
 
-loop-less : tie.Need-loop-smaller invariant-loop decreases-loop
-loop-less c = let t = c.before.before.before.before in omega (arith, (room t).0, t.before.loop.invariant.0)
+loop-less : tie.Need-loop-next-smaller invariant-loop decreases-loop
+loop-less c = let t = c.before.before.before.before in omega (arith, (room t).0, t.before.loop-next.invariant.0)
 
-loop-again : tie.Need-loop-preserved invariant-loop decreases-loop
+loop-again : tie.Need-loop-next-preserved invariant-loop decreases-loop
 loop-again c =
     let put = c.before.before in
     let t = put.before.before in
-    let i = t.before.loop.invariant in
+    let i = t.before.loop-next.invariant in
     let s = t.before.before.before.before in
-    (i.0, put.put-line.auto.0 ∙ i.1, longer _ _ _ _ _ _ _ _ _ _ s.requires.0 i.2 i.1 (room t).0 (room t).1 put.put-line.ensures)
+    (i.0, put.put_line-end.auto.out ∙ i.1, longer _ _ _ _ _ _ _ _ _ _ s.requires.0 i.2 i.1 (room t).0 (room t).1 put.put_line-end.ensures)
 
 returns : tie.Need-returns invariant-loop decreases-loop
-returns c = let i = c.before.loop.invariant in (i.2, moved _ _ _ _ _ _ _ _ i.2 i.1 (rw (← i.0) c.loop-test.false))
+returns c = let i = c.before.loop-next.invariant in (i.2, moved _ _ _ _ _ _ _ _ i.2 i.1 (rw (← i.0) c.loop-next-test.false))
 
-pub put-lines-spec : {M : Type 1} → statement M
-put-lines-spec = tie.close (tie.spec invariant-loop decreases-loop line-count-requires loop-holds sub-loop put-line-requires add-next loop-less loop-again (λ c. search rules) returns)
+pub put_lines_spec : {M : Type 1} → statement M
+put_lines_spec = tie.close (tie.spec invariant-loop decreases-loop line-count-requires loop-holds sub-loop put-line-requires add-next loop-less loop-again (λ c. search rules) returns)

@@ -31,10 +31,10 @@ returns c =
     let met = put.before.before in
     let ray = met.before in
     let turned = ray.before.before.before.before in
-    renamed (ap (answer_text _ _) (met-is _ _ _ _ _ _ _ _ turned.default.ensures ray.ray-from.ensures met.intersect.ensures)) put.put-answer.ensures
+    renamed (ap (answer_text _ _) (met-is _ _ _ _ _ _ _ _ turned.default-identity.ensures ray.ray_from.ensures met.intersect-met.ensures)) put.put_answer.ensures
 
-pub put-met-spec : {M : Type 1} → statement M
-put-met-spec =
+pub put_met_spec : {M : Type 1} → statement M
+put_met_spec =
     tie.close
     (tie.spec (λ c κs. tt) (λ c. search rules) (λ c. search rules) (λ c. search rules) (λ c. search rules) (λ c. search rules) (λ c. search rules) (λ c. search rules) (λ c κs. search rules) (λ c κs. tt)
     (λ c. search rules) (λ c. search rules) (λ c κs. tt) (λ c. search rules) returns)

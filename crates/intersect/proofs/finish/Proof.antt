@@ -5,16 +5,16 @@ use Rattle.walk.proofs.Rules.{number_in}
 use Rattle.intersect.proofs.finish.Statement.{statement}
 use Rattle.intersect.proofs.finish.Tie as tie
 
-returns : tie.Need-returns
+returns : tie.Need-returns-then-w-eq-HIT
 unfolding last_in
-returns c = rw (c.before.before.before.if1.true, ← c.before.before.crossing-in.ensures, ← c.before.frame-in.ensures, ← c.record-at.ensures)
+returns c = rw (c.before.before.before.if-w-eq-HIT.true, ← c.before.before.crossing_in.ensures, ← c.before.frame_in.ensures, ← c.record_at-record.ensures)
 
-returns-2 : tie.Need-returns-2
+returns-2 : tie.Need-returns-then-w-eq-MISS
 unfolding last_in
-returns-2 c = rw c.if2.true
+returns-2 c = rw c.if-w-eq-MISS.true
 
-returns-3 : tie.Need-returns-3
-returns-3 c = rw (number_in _ _ c.before.if1.false c.if2.false)
+returns-3 : tie.Need-returns-else-w-eq-MISS
+returns-3 c = rw (number_in _ _ c.before.if-w-eq-HIT.false c.if-w-eq-MISS.false)
 
 pub finish_spec : {M : Type 1} → statement M
 finish_spec = tie.close (tie.spec (λ c κs. search rules) (λ c κs. search rules) (λ c κs. search rules) returns returns-2 returns-3)

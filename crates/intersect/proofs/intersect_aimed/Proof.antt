@@ -4,12 +4,12 @@ use Rattle.intersect.specs.Intersect.{intersect_framed}
 use Rattle.intersect.proofs.intersect_aimed.Statement.{statement}
 use Rattle.intersect.proofs.intersect_aimed.Tie as tie
 
-returns : tie.Need-returns
-returns c = rw c.before.before.aimed.given.1 c.intersect-along.ensures
+returns : tie.Need-returns-in-Ray
+returns c = rw c.before.in-Ray.is c.intersect_along.ensures
 
-returns-2 : tie.Need-returns-2
+returns-2 : tie.Need-returns-in-ZeroWeight
 unfolding intersect_framed
-returns-2 c = rw c.enum_told.given.1
+returns-2 c = rw c.in-ZeroWeight.is
 
-pub intersect-aimed-spec : {M : Type 1} → statement M
-intersect-aimed-spec = tie.close (tie.spec (λ c. search rules) (λ c κs. search rules) (λ c. search rules) returns returns-2)
+pub intersect_aimed_spec : {M : Type 1} → statement M
+intersect_aimed_spec = tie.close (tie.spec (λ c. search rules) (λ c κs. search rules) (λ c. search rules) returns returns-2)

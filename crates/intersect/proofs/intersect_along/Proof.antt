@@ -5,7 +5,7 @@ use Rattle.intersect.proofs.intersect_along.Statement.{statement}
 use Rattle.intersect.proofs.intersect_along.Tie as tie
 
 returns : tie.Need-returns
-returns c = along_replied _ _ _ _ _ _ _ c.before.before.walk-aimed.ensures c.finish.ensures
+returns c = along_replied _ _ _ _ _ _ _ c.before.before.before.walk_aimed-w.ensures c.finish.ensures
 
-pub intersect-along-spec : {M : Type 1} → statement M
-intersect-along-spec = tie.close (tie.spec (λ c κs. search rules) (λ c κs. search rules) returns)
+pub intersect_along_spec : {M : Type 1} → statement M
+intersect_along_spec = tie.close (tie.spec (λ c κs. search rules) (λ c κs. search rules) returns)

@@ -5,16 +5,16 @@ use Rattle.nearest.specs.declared.NearestIntersection.TheVariants.{Refused}
 use Rattle.nearest.proofs.nearest_within.Statement.{statement}
 use Rattle.nearest.proofs.nearest_within.Tie as tie
 
-returns : tie.Need-returns
+returns : tie.Need-returns-then-number-eq0
 unfolding nearest_within
 returns c =
     let aim = c.before in
     let tested = aim.before.before in
-    told-answer Refused _ _ tested.before.ray-refusal.ensures _ _ tested.if1.true (rw (← aim.before.flips.ensures, ← aim.aim-ray.ensures) c.nearest-aimed.ensures)
+    told-answer Refused _ _ tested.before.ray_refusal-number.ensures _ _ tested.if-number-eq0.true (rw (← aim.before.flips-flip.ensures, ← aim.aim_ray.ensures) c.nearest_aimed.ensures)
 
-returns-2 : tie.Need-returns-2
+returns-2 : tie.Need-returns-else-number-eq0
 unfolding nearest_within
-returns-2 c = told-number Refused _ _ c.before.ray-refusal.ensures _ c.if1.false
+returns-2 c = told-number Refused _ _ c.before.ray_refusal-number.ensures _ c.if-number-eq0.false
 
-pub nearest-within-spec : {M : Type 1} → statement M
-nearest-within-spec = tie.close (tie.spec (λ c κs. tt) (λ c κs. tt) (λ c κs. tt) (λ c κs. tt) returns returns-2)
+pub nearest_within_spec : {M : Type 1} → statement M
+nearest_within_spec = tie.close (tie.spec (λ c κs. tt) (λ c κs. tt) (λ c κs. tt) (λ c κs. tt) returns returns-2)

@@ -8,5 +8,5 @@ returns : tie.Need-returns
 unfolding bounds_floats
 returns c = refl
 
-pub bounds-floats-spec : {M : Type 1} → statement M
-bounds-floats-spec = tie.close (tie.spec returns)
+pub bounds_floats_spec : {M : Type 1} → statement M
+bounds_floats_spec = tie.close (tie.spec returns)

@@ -7,17 +7,17 @@ use Rattle.curve_c.specs.Calls.{record_after, looked_after}
 use Rattle.curve_c.proofs.rays.put_met.Statement.{statement}
 use Rattle.curve_c.proofs.rays.put_met.Tie as tie
 
-returns : tie.Need-returns
+returns : tie.Need-returns-in-Hit
 returns c =
-    let s = c.before.before.before.before in
-    let e = sym c.before.before.met.given.1 in
-    (ap met_number e, (c.record-floats.ensures ∙ ap (λ (x : Intersection). record_after x s.args.«record».now) e, ap (λ (x : Intersection). looked_after x s.args.looked.now) e))
+    let s = c.before.before in
+    let e = sym c.before.in-Hit.is in
+    (ap met_number e, (c.record_floats.ensures ∙ ap (λ (x : Intersection). record_after x s.args.«record».now) e, ap (λ (x : Intersection). looked_after x s.args.looked.now) e))
 
-returns-2 : tie.Need-returns-2
-returns-2 c = let s = c.before.before.before in let e = sym c.before.met2.given.1 in (ap met_number e, (ap (λ (x : Intersection). record_after x s.args.«record».now) e, ap (λ (x : Intersection). looked_after x s.args.looked.now) e))
+returns-2 : tie.Need-returns-in-Miss
+returns-2 c = let s = c.before in let e = sym c.in-Miss.is in (ap met_number e, (ap (λ (x : Intersection). record_after x s.args.«record».now) e, ap (λ (x : Intersection). looked_after x s.args.looked.now) e))
 
-returns-3 : tie.Need-returns-3
-returns-3 c = let s = c.before.before.before in let e = sym c.before.met3.given.1 in (ap met_number e, (ap (λ (x : Intersection). record_after x s.args.«record».now) e, ap (λ (x : Intersection). looked_after x s.args.looked.now) e))
+returns-3 : tie.Need-returns-in-Refused
+returns-3 c = let s = c.before in let e = sym c.in-Refused.is in (ap met_number e, (ap (λ (x : Intersection). record_after x s.args.«record».now) e, ap (λ (x : Intersection). looked_after x s.args.looked.now) e))
 
-pub put-met-spec : {M : Type 1} → statement M
-put-met-spec = tie.close (tie.spec (λ c. search rules) (λ c κs. tt) (λ c. search rules) (λ c. search rules) (λ c. search rules) returns returns-2 returns-3)
+pub put_met_spec : {M : Type 1} → statement M
+put_met_spec = tie.close (tie.spec (λ c. search rules) (λ c κs. tt) (λ c. search rules) (λ c. search rules) (λ c. search rules) returns returns-2 returns-3)

@@ -8,5 +8,5 @@ returns c =
     let made = c.before.add.ensures in
     (rw (c.number_of.ensures, made.0), made.1)
 
-pub curve-set-add-spec : {M : Type 1} → statement M
-curve-set-add-spec = tie.close (tie.spec (λ c κs. search rules) (λ c κs. tt) returns)
+pub curve_set_add_spec : {M : Type 1} → statement M
+curve_set_add_spec = tie.close (tie.spec (λ c κs. search rules) (λ c κs. tt) returns)

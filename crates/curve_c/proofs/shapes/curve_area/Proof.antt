@@ -7,11 +7,11 @@ use Rattle.curve_c.specs.Calls.{area_after}
 use Rattle.curve_c.proofs.shapes.curve_area.Statement.{statement}
 use Rattle.curve_c.proofs.shapes.curve_area.Tie as tie
 
-returns : tie.Need-returns
-returns c = let e = sym c.before.a.given.1 ∙ c.before.before.before.area.ensures in (ap area_number e, ap (λ (x : Measured). area_after x c.before.before.before.before.before.args.out.now) e)
+returns : tie.Need-returns-in-Area
+returns c = let e = sym c.in-Area.is ∙ c.before.area.ensures in (ap area_number e, ap (λ (x : Measured). area_after x c.before.before.before.args.out.now) e)
 
-returns-2 : tie.Need-returns-2
-returns-2 c = let e = sym c.before.number.given.1 ∙ c.before.before.before.area.ensures in (ap area_number e, ap (λ (x : Measured). area_after x c.before.before.before.before.before.args.out.now) e)
+returns-2 : tie.Need-returns-in-Refused
+returns-2 c = let e = sym c.in-Refused.is ∙ c.before.area.ensures in (ap area_number e, ap (λ (x : Measured). area_after x c.before.before.before.args.out.now) e)
 
-pub curve-area-spec : {M : Type 1} → statement M
-curve-area-spec = tie.close (tie.spec (λ c κs. search rules) (λ c. search rules) (λ c. search rules) (λ c. search rules) returns returns-2)
+pub curve_area_spec : {M : Type 1} → statement M
+curve_area_spec = tie.close (tie.spec (λ c κs. search rules) (λ c. search rules) (λ c. search rules) (λ c. search rules) returns returns-2)

@@ -9,9 +9,9 @@ use Rattle.curve_c.proofs.shapes.curve_object_bound.Tie as tie
 
 returns : tie.Need-returns
 returns c =
-    let put = c.put-bound.ensures in
-    let e = c.before.before.object-bound.ensures in
+    let put = c.put_bound.ensures in
+    let e = c.before.before.object_bound.ensures in
     (put.0 ∙ ap bound_number e, put.1 ∙ ap (λ (x : Bound). bound_after x c.before.before.before.before.args.out.now) e)
 
-pub curve-object-bound-spec : {M : Type 1} → statement M
-curve-object-bound-spec = tie.close (tie.spec (λ c κs. search rules) (λ c κs. tt) returns)
+pub curve_object_bound_spec : {M : Type 1} → statement M
+curve_object_bound_spec = tie.close (tie.spec (λ c κs. search rules) (λ c κs. tt) returns)

@@ -7,13 +7,13 @@ use Rattle.curve_c.specs.Calls.{bound_after}
 use Rattle.curve_c.proofs.shapes.put_bound.Statement.{statement}
 use Rattle.curve_c.proofs.shapes.put_bound.Tie as tie
 
-returns : tie.Need-returns
+returns : tie.Need-returns-in-Bounds
 returns c =
-    let e = sym c.before.before.b.given.1 in
-    (ap bound_number e, c.bounds-floats.ensures ∙ ap (λ (x : Bound). bound_after x c.before.before.before.before.args.out.now) e)
+    let e = sym c.before.in-Bounds.is in
+    (ap bound_number e, c.bounds_floats.ensures ∙ ap (λ (x : Bound). bound_after x c.before.before.args.out.now) e)
 
-returns-2 : tie.Need-returns-2
-returns-2 c = let e = sym c.before.b2.given.1 in (ap bound_number e, ap (λ (x : Bound). bound_after x c.before.before.before.args.out.now) e)
+returns-2 : tie.Need-returns-in-Refused
+returns-2 c = let e = sym c.in-Refused.is in (ap bound_number e, ap (λ (x : Bound). bound_after x c.before.args.out.now) e)
 
-pub put-bound-spec : {M : Type 1} → statement M
-put-bound-spec = tie.close (tie.spec (λ c. search rules) (λ c κs. tt) (λ c. search rules) (λ c. search rules) returns returns-2)
+pub put_bound_spec : {M : Type 1} → statement M
+put_bound_spec = tie.close (tie.spec (λ c. search rules) (λ c κs. tt) (λ c. search rules) (λ c. search rules) returns returns-2)

@@ -10,16 +10,16 @@ use Rattle.curve_c.specs.Calls.{beams_after, counts_after}
 use Rattle.curve_c.proofs.sheets.curve_sheet.Statement.{statement}
 use Rattle.curve_c.proofs.sheets.curve_sheet.Tie as tie
 
-put-reply-requires : tie.Need-put-reply-requires
+put-reply-requires : tie.Need-put_reply-requires
 put-reply-requires c κs =
     let s = c.before.before.before.before.before.before.before.before.before in
-    subst (λ (x : Sheet). ReplyWithin x.reply) (sym c.before.before.before.before.before.read-sheet.ensures.0) (reply_within s.args.bytes.now (length s.args.list.now))
+    subst (λ (x : Sheet). ReplyWithin x.reply) (sym c.before.before.before.before.before.read_sheet-read.ensures.0) (reply_within s.args.bytes.now (length s.args.list.now))
 
 returns : tie.Need-returns
 returns c =
     let s = c.before.before.before.before.before.before.before.before.before.before in
-    let put = c.put-reply.ensures in
-    let read = c.before.before.before.before.before.before.read-sheet.ensures in (
+    let put = c.put_reply.ensures in
+    let read = c.before.before.before.before.before.before.read_sheet-read.ensures in (
       put.0 ∙ ap (λ (x : Sheet). reply_number x.reply) read.0,
       (
         read.1,
@@ -30,5 +30,5 @@ returns c =
       ),
     )
 
-pub curve-sheet-spec : {M : Type 1} → statement M
-curve-sheet-spec = tie.close (tie.spec (λ c κs. search rules) put-reply-requires (λ c. search rules) returns)
+pub curve_sheet_spec : {M : Type 1} → statement M
+curve_sheet_spec = tie.close (tie.spec (λ c κs. search rules) put-reply-requires (λ c. search rules) returns)

@@ -2,11 +2,11 @@
 use Rattle.curve_c.proofs.sheets.number_of.Statement.{statement}
 use Rattle.curve_c.proofs.sheets.number_of.Tie as tie
 
-returns : tie.Need-returns
-returns c = rw c.if1.true
+returns : tie.Need-returns-then-flag
+returns c = rw c.if-flag.true
 
-returns-2 : tie.Need-returns-2
-returns-2 c = rw c.if1.false
+returns-2 : tie.Need-returns-else-flag
+returns-2 c = rw c.if-flag.false
 
-pub number-of-spec : {M : Type 1} → statement M
-number-of-spec = tie.close (tie.spec returns returns-2)
+pub number_of_spec : {M : Type 1} → statement M
+number_of_spec = tie.close (tie.spec returns returns-2)

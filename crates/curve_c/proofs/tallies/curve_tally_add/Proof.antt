@@ -4,7 +4,7 @@ use Rattle.curve_c.proofs.tallies.curve_tally_add.Statement.{statement}
 use Rattle.curve_c.proofs.tallies.curve_tally_add.Tie as tie
 
 returns : tie.Need-returns
-returns c = (rw (c.number_of.ensures, c.before.add-status.ensures.0), c.before.add-status.ensures.1)
+returns c = (rw (c.number_of.ensures, c.before.add_status.ensures.0), c.before.add_status.ensures.1)
 
-pub curve-tally-add-spec : {M : Type 1} → statement M
-curve-tally-add-spec = tie.close (tie.spec (λ c κs. search rules) (λ c κs. tt) returns)
+pub curve_tally_add_spec : {M : Type 1} → statement M
+curve_tally_add_spec = tie.close (tie.spec (λ c κs. search rules) (λ c κs. tt) returns)

@@ -7,7 +7,7 @@ use Rattle.curve_set.proofs.best.is_nearer.Tie as tie
 returns : tie.Need-returns
 returns c = refl
 
-pub is-nearer-spec : {M : Type 1} → statement M
-is-nearer-spec =
+pub is_nearer_spec : {M : Type 1} → statement M
+is_nearer_spec =
     tie.close
     (tie.spec (λ c. search rules) (λ c. search rules) (λ c. search rules) (λ c. search rules) (λ c. search rules) returns)

@@ -6,7 +6,7 @@ use Rattle.curve_set.proofs.best.refresh.Tie as tie
 
 returns : tie.Need-returns
 unfolding refreshed
-returns c = rw (c.copy-words.ensures, c.before.before.before.best-place.ensures)
+returns c = rw (c.copy_words.ensures, c.before.before.before.best_place-q.ensures)
 
-pub refresh-spec : {M : Type 1} → statement M
-refresh-spec = tie.close (tie.spec (λ c κs. tt) (λ c. search rules) (λ c κs. search rules) returns)
+pub refresh_spec : {M : Type 1} → statement M
+refresh_spec = tie.close (tie.spec (λ c κs. tt) (λ c. search rules) (λ c κs. search rules) returns)

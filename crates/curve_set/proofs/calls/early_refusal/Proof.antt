@@ -4,21 +4,21 @@ use Rattle.curve_set.specs.Kept.{add_refusals}
 use Rattle.curve_set.proofs.calls.early_refusal.Statement.{statement}
 use Rattle.curve_set.proofs.calls.early_refusal.Tie as tie
 
-returns : tie.Need-returns
+returns : tie.Need-returns-then-there
 unfolding first_of add_refusals
-returns c = rw (c.before.if1.true, c.if2.true)
+returns c = rw (c.before.if-is_curve.true, c.if-there.true)
 
-returns-2 : tie.Need-returns-2
+returns-2 : tie.Need-returns-then-full
 unfolding first_of add_refusals
-returns-2 c = rw (c.before.before.if1.true, c.before.if2.false, c.if3.true)
+returns-2 c = rw (c.before.before.if-is_curve.true, c.before.if-there.false, c.if-full.true)
 
-returns-3 : tie.Need-returns-3
+returns-3 : tie.Need-returns-else-full
 unfolding first_of add_refusals
-returns-3 c = rw (c.before.before.if1.true, c.before.if2.false, c.if3.false)
+returns-3 c = rw (c.before.before.if-is_curve.true, c.before.if-there.false, c.if-full.false)
 
-returns-4 : tie.Need-returns-4
+returns-4 : tie.Need-returns-else-is_curve
 unfolding first_of add_refusals
-returns-4 c = rw c.if1.false
+returns-4 c = rw c.if-is_curve.false
 
-pub early-refusal-spec : {M : Type 1} → statement M
-early-refusal-spec = tie.close (tie.spec returns returns-2 returns-3 returns-4)
+pub early_refusal_spec : {M : Type 1} → statement M
+early_refusal_spec = tie.close (tie.spec returns returns-2 returns-3 returns-4)

@@ -8,10 +8,10 @@ use Rattle.curve_set.proofs.calls.put_head.Tie as tie
 
 returns : tie.Need-returns
 unfolding floats_opened words_opened
-returns c = (rw (c.before.before.before.before.copy-floats3.ensures, c.before.before.before.before.before.before.flatten3.ensures, c.before.before.before.before.before.before.before.before.copy-floats2.ensures, c.before.before.before.before.before.before.before.before.before.before.flatten2.ensures, c.before.before.before.before.before.before.before.before.before.before.before.before.copy-floats.ensures, c.before.before.before.before.before.before.before.before.before.before.before.before.before.before.flatten.ensures) (head_put _ _ _ _ (omega arith)), rw (c.copy-words.ensures, c.before.before.flag_word.ensures))
+returns c = (rw (c.before.before.before.before.copy_floats-3.ensures, c.before.before.before.before.before.before.flatten-3.ensures, c.before.before.before.before.before.before.before.before.copy_floats-2.ensures, c.before.before.before.before.before.before.before.before.before.before.flatten-2.ensures, c.before.before.before.before.before.before.before.before.before.before.before.before.copy_floats.ensures, c.before.before.before.before.before.before.before.before.before.before.before.before.before.before.flatten.ensures) (head_put _ _ _ _ (omega arith)), rw (c.copy_words.ensures, c.before.before.flag_word.ensures))
 
-pub put-head-spec : {M : Type 1} → statement M
-put-head-spec =
+pub put_head_spec : {M : Type 1} → statement M
+put_head_spec =
     tie.close
     (tie.spec (λ c κs. search rules) (λ c. search rules) (λ c κs. search rules) (λ c κs. search rules) (λ c. search rules) (λ c κs. search rules)
     (λ c κs. search rules) (λ c. search rules) (λ c κs. search rules) (λ c κs. tt) (λ c. search rules) (λ c κs. search rules) returns)

@@ -6,16 +6,16 @@ use Rattle.curve_set.specs.Set.{shown_in}
 use Rattle.curve_set.proofs.calls.shown.Statement.{statement}
 use Rattle.curve_set.proofs.calls.shown.Tie as tie
 
-returns : tie.Need-returns
+returns : tie.Need-returns-then-is_hit
 unfolding shown_in
-returns c = rw (← c.before.before.before.before.before.is-hit.ensures, c.before.before.before.before.if1.true, c.before.record-from.ensures, add-sub_cancel_left (59 + c.before.before.before.before.before.before.args.i * 41) 22)
+returns c = rw (← c.before.before.before.before.before.before.is_hit.ensures, c.before.before.before.before.before.if-is_hit.true, c.before.before.record_from-record.ensures, add-sub_cancel_left (59 + c.before.before.before.before.before.before.before.args.i * 41) 22)
 
-returns-2 : tie.Need-returns-2
+returns-2 : tie.Need-returns-else-is_hit
 unfolding shown_in
-returns-2 c = rw (← c.before.is-hit.ensures, c.if1.false)
+returns-2 c = rw (← c.before.is_hit.ensures, c.if-is_hit.false)
 
-pub shown-spec : {M : Type 1} → statement M
-shown-spec =
+pub shown_spec : {M : Type 1} → statement M
+shown_spec =
     tie.close
     (tie.spec (λ c κs. search rules) (λ c. search rules) (λ c. search rules) (λ c. search rules) (λ c. search rules) (λ c. search rules)
     (λ c. search rules) (λ c. search rules) (λ c. search rules) (λ c κs. search rules) (λ c. search rules) (λ c. search rules) (λ c. search rules)

@@ -6,10 +6,10 @@ use Rattle.curve_set.proofs.entries.append.Tie as tie
 
 returns : tie.Need-returns
 unfolding words_put
-returns c = (c.before.before.before.before.before.put-floats.ensures, rw (c.set-count.ensures, c.before.before.copy-words.ensures))
+returns c = (c.before.before.before.before.before.put_floats.ensures, rw (c.set_count.ensures, c.before.before.copy_words.ensures))
 
-pub append-spec : {M : Type 1} → statement M
-append-spec =
+pub append_spec : {M : Type 1} → statement M
+append_spec =
     tie.close
     (tie.spec (λ c κs. search rules) (λ c. search rules) (λ c. search rules) (λ c. search rules) (λ c κs. search rules) (λ c. search rules)
     (λ c. search rules) (λ c κs. tt) returns)

@@ -7,8 +7,7 @@ use Rattle.curve_set.proofs.entries.keep.Tie as tie
 
 returns : tie.Need-returns
 returns c =
-    let p = c.before.before.before in
-    (p.append.ensures.0, c.refresh.ensures ∙ ap₂ refreshed p.append.ensures.0 p.append.ensures.1)
+    (c.append.ensures.0, c.refresh.ensures ∙ ap₂ refreshed c.append.ensures.0 c.append.ensures.1)
 
 pub keep_spec : {M : Type 1} → statement M
 keep_spec = tie.close (tie.spec (λ c κs. search rules) (λ c κs. tt) returns)

@@ -5,13 +5,13 @@ use Rattle.curve_set.specs.Layout.{count_of}
 use Rattle.curve_set.proofs.layout.count.Statement.{statement}
 use Rattle.curve_set.proofs.layout.count.Tie as tie
 
-returns : tie.Need-returns
+returns : tie.Need-returns-then-n-lt-CURVES
 unfolding count_of
-returns c = rw (← c.before.wide.ensures, lt-ltb _ _ c.if1.true)
+returns c = rw (← c.before.wide-n.ensures, lt-ltb _ _ c.if-n-lt-CURVES.true)
 
-returns-2 : tie.Need-returns-2
+returns-2 : tie.Need-returns-else-n-lt-CURVES
 unfolding count_of
-returns-2 c = rw (← c.before.wide.ensures, le-ltb _ _ c.if1.false)
+returns-2 c = rw (← c.before.wide-n.ensures, le-ltb _ _ c.if-n-lt-CURVES.false)
 
 pub count_spec : {M : Type 1} → statement M
 count_spec = tie.close (tie.spec (λ c. search rules) (λ c κs. tt) returns returns-2)

@@ -7,10 +7,10 @@ use Rattle.curve_set.proofs.own.own_answer.Tie as tie
 
 returns : tie.Need-returns
 unfolding nearest_along head_of head_from
-returns c = rw (c.nearest.ensures, c.before.ray-from.ensures, c.before.before.before.matrix-from2.ensures, c.before.before.before.before.matrix-from.ensures)
+returns c = rw (c.nearest.ensures, c.before.ray_from.ensures, c.before.before.before.before.matrix_from-2.ensures, c.before.before.before.before.before.matrix_from.ensures)
 
-pub own-answer-spec : {M : Type 1} → statement M
-own-answer-spec =
+pub own_answer_spec : {M : Type 1} → statement M
+own_answer_spec =
     tie.close
     (tie.spec (λ c. search rules) (λ c. search rules) (λ c. search rules) (λ c κs. search rules) (λ c κs. search rules) (λ c. search rules)
     (λ c κs. search rules) (λ c κs. tt) returns)

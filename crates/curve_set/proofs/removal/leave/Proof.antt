@@ -7,8 +7,7 @@ use Rattle.curve_set.proofs.removal.leave.Tie as tie
 
 returns : tie.Need-returns
 returns c =
-    let p = c.before.before.before in
-    (p.take_out.ensures.0, c.refresh.ensures ∙ ap₂ refreshed p.take_out.ensures.0 p.take_out.ensures.1)
+    (c.take_out.ensures.0, c.refresh.ensures ∙ ap₂ refreshed c.take_out.ensures.0 c.take_out.ensures.1)
 
 pub leave_spec : {M : Type 1} → statement M
 leave_spec = tie.close (tie.spec (λ c κs. search rules) (λ c κs. tt) returns)

@@ -6,10 +6,10 @@ use Rattle.curve_set.proofs.removal.take_out.Tie as tie
 
 returns : tie.Need-returns
 unfolding floats_without words_without
-returns c = (c.before.before.before.before.move-floats.ensures, rw (c.set-count.ensures, c.before.before.move-words.ensures))
+returns c = (c.before.before.before.before.move_floats.ensures, rw (c.set_count.ensures, c.before.before.move_words.ensures))
 
-pub take-out-spec : {M : Type 1} → statement M
-take-out-spec =
+pub take_out_spec : {M : Type 1} → statement M
+take_out_spec =
     tie.close
     (tie.spec (λ c. search rules) (λ c. search rules) (λ c. search rules) (λ c. search rules) (λ c. search rules) (λ c. search rules)
     (λ c. search rules) (λ c. search rules) (λ c κs. search rules) (λ c. search rules) (λ c. search rules) (λ c. search rules) (λ c. search rules)

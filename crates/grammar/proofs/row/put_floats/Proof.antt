@@ -41,7 +41,7 @@ loop-again c =
     let l = t.before in
     let s = l.before.before.before in (
       omega (arith, t.loop-i-test.true),
-      turn _ _ _ _ _ _ _ _ t.loop-i-test.true s.requires.2 l.loop-i.invariant.1 c.Float-at.ensures,
+      turn _ _ _ _ _ _ _ _ t.loop-i-test.true s.requires.2 l.loop-i.invariant.1 c.float_at.ensures,
       length-set l.loop-i.out _ _ ∙ l.loop-i.invariant.2,
     )
 

@@ -82,7 +82,7 @@ module _ (t : tie.In-loop-j invariant-loop decreases-loop) where
 
   near : l.loop-j.from ≤ far
   unfolding row_size
-  near = omega (arith, reach l.loop-j.j s.args.most _ (length (row_key k)) (row_floats k) s.args.at _ refl (row_small k).1 (row_small k).0 s.requires.2 t.loop-j-test.true s.requires.1 l.loop-j.inv.1)
+  near = omega (arith, reach l.loop-j.j s.args.most _ (length (row_key k)) (row_floats k) s.args.at _ refl (row_small k).1 (row_small k).0 s.requires.2 t.loop-j-test.true s.requires.1 l.loop-j.invariant.1)
 
   fits : l.loop-j.j * row_floats k + row_floats k ≤ length s.args.out.now
   fits = omega (arith, next_in l.loop-j.j s.args.most (row_floats k) t.loop-j-test.true, s.requires.3)
@@ -97,7 +97,7 @@ module _ (e : tie.Else-not-row invariant-loop decreases-loop) where
   -- the row is right
   told : (row.value ≡ row_floats (k t)) × (row.at ≡ (l t).loop-j.from + (length (row_key (k t)) + row_floats (k t) * float_size))
   unfolding row_size
-  told = (row_taken _ (k t) (l t).loop-j.from row (s t).requires.0 e.before.before.read_line-row.ensures).1 (e.if-not-row.false)
+  told = (row_taken _ (k t) (l t).loop-j.from row (s t).requires.0 e.before.before.read_line-row.ensures).1 (not-false _ e.if-not-row.false)
 
 read-line-requires : tie.Need-read_line-row-requires invariant-loop decreases-loop
 read-line-requires c κs = near c
@@ -117,21 +117,21 @@ put-floats-requires : tie.Need-put_floats-requires invariant-loop decreases-loop
 put-floats-requires c κs =
     let e = c.before.before.before in
     let same = ap (λ (n : ℕ). (l (t e)).loop-j.j * n) (told e).0 in
-    (omega (arith, told e, near (t e), row_small (k (t e))), omega (arith, (told e).0, (row_small (k (t e))).0), omega (arith, same, (told e).0, fits (t e), (l (t e)).loop-j.inv.4))
+    (omega (arith, told e, near (t e), row_small (k (t e))), omega (arith, (told e).0, (row_small (k (t e))).0), omega (arith, same, (told e).0, fits (t e), (l (t e)).loop-j.invariant.4))
 
 loop-again : tie.Need-loop-j-preserved invariant-loop decreases-loop
 unfolding row_size
 loop-again c =
     let called = c.before.before in
     let e = called.before.before.before.before in
-    let i = (l (t e)).loop-j.inv in
+    let i = (l (t e)).loop-j.invariant in
     let j = (l (t e)).loop-j.j in
     let n = row_floats (k (t e)) in
     let f = F (s (t e)).args.s.now (k (t e)) (s (t e)).args.at in
     let written = row_put_lem _ (s (t e)).args.out.now _ _ (k (t e)) (s (t e)).args.at j _ (row e) i.1 (told e).0 (told e).1 i.3 called.put_floats.ensures (fits (t e)) in (
       omega (arith, (t e).loop-j-test.true),
       behind (s (t e)).args.at j _ (l (t e)).loop-j.from (row e).at i.1 (told e).1,
-      all_next (P (s (t e)).args.s.now (k (t e)) (s (t e)).args.at) j i.2 (row_told _ (k (t e)) _ j _ (row e) true (s (t e)).requires.0 i.1 e.before.before.read_line-row.ensures (e.if-not-row.false)),
+      all_next (P (s (t e)).args.s.now (k (t e)) (s (t e)).args.at) j i.2 (row_told _ (k (t e)) _ j _ (row e) true (s (t e)).requires.0 i.1 e.before.before.read_line-row.ensures (not-false _ e.if-not-row.false)),
       written,
       ap length written ∙ over-length (s (t e)).args.out.now 0 f n (j + 1) (λ m. length-floats _ _ n) (omega (arith, next_in j (s (t e)).args.most n (t e).loop-j-test.true, (s (t e)).requires.3)),
     )
@@ -142,7 +142,7 @@ returns c =
     let called = c.before.before in
     let t = called.before in
     let i = (l t).loop-j.invariant in
-    let wrong = row_told _ (k t) _ (l t).loop-j.j _ called.read_line-row.result false (s t).requires.0 i.1 called.read_line-row.ensures (c.if-not-row.true) in
+    let wrong = row_told _ (k t) _ (l t).loop-j.j _ called.read_line-row.result false (s t).requires.0 i.1 called.read_line-row.ensures (not-true _ c.if-not-row.true) in
     (sym (run_is (s t).args.most (P (s t).args.s.now (k t) (s t).args.at) (l t).loop-j.j i.0 i.2 (λ _. wrong)), i.3)
 
 returns-2 : tie.Need-returns invariant-loop decreases-loop

@@ -1,5 +1,4 @@
 -- `measure::bound::world_bound` meets its contract: each return rewrites by the facts on its way. Assumes nothing.
-use borrow.Author.Tests.{not-false}
 use Rattle.curve.proofs.Records.{is_long}
 use Rattle.limits.specs.Refusal.{first_of}
 use Rattle.measure.specs.Bound.{world_bound_refusals, world_bound}

@@ -1,5 +1,5 @@
 -- `measure::prices::price` meets its contract: each return rewrites by the facts on its way. Assumes nothing.
-use borrow.Author.Tests.{le-ltb, lt-ltb, not-false}
+use borrow.Author.Tests.{le-ltb, lt-ltb}
 use Rattle.limits.specs.Refusal.{first_of}
 use Rattle.curve.proofs.Records.{is_long}
 use Rattle.measure.specs.Area.{area_of}

@@ -7,7 +7,7 @@ use Rattle.nearest.proofs.list.hit_curve.Tie as tie
 
 returns : tie.Need-returns
 unfolding kept_answer
-returns c = rw (← slice_curve, c.record-at.ensures, c.before.frame-in.ensures, c.before.before.crossing-in.ensures)
+returns c = rw (← slice_curve, c.record_at-record.ensures, c.before.frame_in.ensures, c.before.before.crossing_in.ensures)
 
-pub hit-curve-spec : {M : Type 1} → statement M
-hit-curve-spec = tie.close (tie.spec (λ c. search rules) (λ c. search rules) (λ c. search rules) (λ c. search rules) (λ c. search rules) (λ c. search rules) (λ c κs. search rules) (λ c κs. search rules) (λ c κs. search rules) returns)
+pub hit_curve_spec : {M : Type 1} → statement M
+hit_curve_spec = tie.close (tie.spec (λ c. search rules) (λ c. search rules) (λ c. search rules) (λ c. search rules) (λ c. search rules) (λ c. search rules) (λ c κs. search rules) (λ c κs. search rules) (λ c κs. search rules) returns)

@@ -4,17 +4,17 @@ use Rattle.nearest.specs.Kept.{is_nearer}
 use Rattle.nearest.proofs.list.is_nearer.Statement.{statement}
 use Rattle.nearest.proofs.list.is_nearer.Tie as tie
 
-returns : tie.Need-returns
+returns : tie.Need-returns-in-Hit
 unfolding is_nearer
-returns c = rw (c.before.enum_told.given.1, ← c.distance-in.ensures)
+returns c = rw (c.before.in-Hit.is, ← c.distance_in.ensures)
 
-returns-2 : tie.Need-returns-2
+returns-2 : tie.Need-returns-in-Miss
 unfolding is_nearer
-returns-2 c = rw c.enum-told2.given.1
+returns-2 c = rw c.in-Miss.is
 
-returns-3 : tie.Need-returns-3
+returns-3 : tie.Need-returns-in-Refused
 unfolding is_nearer
-returns-3 c = rw c.enum-told3.given.1
+returns-3 c = rw c.in-Refused.is
 
-pub is-nearer-spec : {M : Type 1} → statement M
-is-nearer-spec = tie.close (tie.spec (λ c. search rules) (λ c κs. search rules) (λ c. search rules) (λ c. search rules) returns returns-2 returns-3)
+pub is_nearer_spec : {M : Type 1} → statement M
+is_nearer_spec = tie.close (tie.spec (λ c. search rules) (λ c κs. search rules) (λ c. search rules) (λ c. search rules) returns returns-2 returns-3)

@@ -4,7 +4,7 @@ use Rattle.nearest.proofs.list.nearest_along.Statement.{statement}
 use Rattle.nearest.proofs.list.nearest_along.Tie as tie
 
 returns : tie.Need-returns
-returns c = c.finish.ensures ∙ c.before.before.keep-nearest.ensures.0 _
+returns c = c.finish.ensures ∙ c.before.before.keep_nearest-kept.ensures.0 _
 
-pub nearest-along-spec : {M : Type 1} → statement M
-nearest-along-spec = tie.close (tie.spec (λ c κs. tt) (λ c κs. c.before.keep-nearest.ensures.1) returns)
+pub nearest_along_spec : {M : Type 1} → statement M
+nearest_along_spec = tie.close (tie.spec (λ c κs. tt) (λ c κs. c.before.keep_nearest-kept.ensures.1) returns)

@@ -10,7 +10,7 @@ unfolding bits_text
 returns c =
     let float = c.before.before in
     let word = float.before.before.before.before in
-    then word.put_word.ensures float.put-float.ensures
+    then word.put_word-a.ensures float.put_float.ensures
 
-pub put-bits-spec : {M : Type 1} → statement M
-put-bits-spec = tie.close (tie.spec (λ c κs. tt) (λ c κs. tt) (λ c. search rules) returns)
+pub put_bits_spec : {M : Type 1} → statement M
+put_bits_spec = tie.close (tie.spec (λ c κs. tt) (λ c κs. tt) (λ c. search rules) returns)

@@ -10,7 +10,7 @@ unfolding number_text
 returns c =
     let decimal = c.before.before in
     let word = decimal.before.before.before.before in
-    then word.put_word.ensures decimal.put-decimal.ensures
+    then word.put_word-a.ensures decimal.put_decimal.ensures
 
-pub put-number-spec : {M : Type 1} → statement M
-put-number-spec = tie.close (tie.spec (λ c κs. tt) (λ c κs. tt) (λ c. search rules) returns)
+pub put_number_spec : {M : Type 1} → statement M
+put_number_spec = tie.close (tie.spec (λ c κs. tt) (λ c κs. tt) (λ c. search rules) returns)

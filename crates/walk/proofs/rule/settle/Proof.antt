@@ -5,10 +5,10 @@ use Rattle.walk.proofs.rule.settle.Statement.{statement}
 use Rattle.walk.proofs.rule.settle.Tie as tie
 
 returns : tie.Need-returns-then-takes_place
-returns c = settle_hit _ _ _ _ _ _ _ c.before.before.before.l.given.1 c.before.before.takes_place.ensures c.before.if-takes_place.true c.found_floats.ensures
+returns c = settle_hit _ _ _ _ _ _ _ c.before.before.in-Passes.is c.before.before.takes_place.ensures c.before.if-takes_place.true c.found_floats.ensures
 
 returns-2 : tie.Need-returns-else-takes_place
-returns-2 c = settle_stays _ _ _ _ _ _ c.before.before.l.given.1 c.before.takes_place.ensures c.if-takes_place.false
+returns-2 c = settle_stays _ _ _ _ _ _ c.before.in-Passes.is c.before.takes_place.ensures c.if-takes_place.false
 
 returns-3 : tie.Need-returns-in-Fails
 returns-3 c = settle_none _ _ _ c.in-Fails.is
