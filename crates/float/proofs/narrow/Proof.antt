@@ -11,7 +11,6 @@ use Rattle.float.proofs.Narrowing.{Narrowed, to_zero, to_subnormal, to_normal, t
 use Rattle.float.proofs.Pattern.{last, may_read}
 use Rattle.float.proofs.narrow.Statement.{statement}
 use Rattle.float.proofs.narrow.Tie as tie
-use Rattle.float.proofs.narrow.Lts.{in-897-to-1150, in_default, in_default-via-then-exponent-lt897, in_default-via-else-exponent-lt897+else-exponent-lt1151}
 
 -- ---- the exponent's field and the digits of the pattern b
 
@@ -75,17 +74,15 @@ module _ (c : tie.Else-x) where
 sized : (c : tie.Joined-exponent-lt897) → Here c.before c.if-exponent-lt897.rounded
 sized c =
     let n = c.before in
-    elim c.if-exponent-lt897.branch [
-      | in-897-to-1150 w ↦
-          subst (λ (z : ℕ). Here n z) (sym (w.rounded-is ∙ w.shift_nearest-rounded.ensures))
-          (to_normal (leb (top binary64) (b n)) (E (b n)) (t (b n)) (digits n) (b n % top binary64 - rebias * hid binary64) (whole_is (b n) w.in-897-to-1150.if-exponent-lt897-own.false) w.in-897-to-1150.if-exponent-lt897-own.false (omega (arith, w.in-897-to-1150.if-exponent-lt1151-own.true)))
-      | in_default w ↦
-          subst (λ (z : ℕ). Here n z) (sym (w.rounded-is ∙ w.narrow_rest-rounded.ensures))
-          (elim w.in_default.branch [
-            | in_default-via-then-exponent-lt897 v ↦ rest-low n (omega (arith, v.if-exponent-lt897-1.true))
-            | in_default-via-else-exponent-lt897+else-exponent-lt1151 v ↦ rest-high n (omega (arith, v.if-exponent-lt1151-1.false))
-          ])
-    ]
+    ⊎_elim
+    (λ w.
+    let l : rebias < E (b n) = omega arith in
+    subst (λ (z : ℕ). Here n z) (sym (w.rounded-is ∙ w.shift_nearest-rounded.ensures))
+    (to_normal (leb (top binary64) (b n)) (E (b n)) (t (b n)) (digits n) (b n % top binary64 - rebias * hid binary64) (whole_is (b n) l) l (omega arith)))
+    (λ w.
+    subst (λ (z : ℕ). Here n z) (sym (w.rounded-is ∙ w.narrow_rest-rounded.ensures))
+    (⊎_elim (λ v. rest-low n (omega arith)) (λ v. rest-high n (omega arith)) w.in_default.branch-raw))
+    c.if-exponent-lt897.branch-raw
 
 -- the sign's bit, and then the pattern
 abbrev signed : tie.Joined-exponent-lt897 → ℕ

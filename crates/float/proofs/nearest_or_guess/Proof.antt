@@ -22,11 +22,5 @@ add-if1 c = omega arith
 add-if2 : tie.Need-overflow_add-square
 add-if2 c = omega (arith, square-lt c.before.args.guess c.before.requires.1.1)
 
-returns : tie.Need-returns-then-n-square
-returns c = nearest-only c.before.before.args.n c.before.before.args.guess (omega arith)
-
-returns-2 : tie.Need-returns
-returns-2 c = c.nearest_root.ensures
-
 pub nearest_or_guess_spec : {M : Type 1} → statement M
-nearest_or_guess_spec = tie.close (tie.spec mul-square add-if1 add-if2 returns (λ c κs. search rules) returns-2)
+nearest_or_guess_spec = tie.close (tie.spec mul-square add-if1 add-if2 (λ c. nearest-only c.args.n c.args.guess (omega arith)) (λ c κs. search rules) (λ c. c.nearest_root.ensures))
