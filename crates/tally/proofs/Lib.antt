@@ -1,3 +1,2 @@
 pub mod Grows
 pub mod TallyCorrect
-pub mod Walks
