@@ -1,5 +1,6 @@
 -- What a transfer's calls do to the bytes that a writer holds and a reader has left. Assumes nothing.
-use Rattle.std.proofs.Common.{◌≡◌, ℕ, zero, suc, ◌+◌, ◌-◌, ◌≤◌, Bool, true, false, cond, ltb, List, [], ◌∷◌, ◌++◌, take, drop, refl, ap, append_assoc, append-nil, sym, ℤ, pos, negsuc, arith, length-append}
+use Rattle.std.proofs.Common.{◌≡◌, ℕ, zero, suc, ◌+◌, ◌-◌, ◌≤◌, Bool, true, false, cond, ltb, List, [], ◌++◌, take, drop, refl, ap, append_assoc, append-nil, sym, ◌∙◌, ℤ, pos, negsuc, arith, length-append}
+use Rattle.std.proofs.Math.Seq.{take-add}
 use Rattle.std.specs.Prelude.{Option, None, Some}
 use Rattle.std.specs.Io.KnownBytes.{Appends, Consumes}
 use Rattle.transfer.specs.declared.Stand.TheVariants.{Open, Nothing, Interrupted, Failed}
@@ -43,16 +44,8 @@ module _ (t : Transfer) (error : ℤ) where
 
 -- ---- the bytes of one call behind those of others
 
-take_nil : (n : ℕ) → take {A = ℕ} n [] ≡ []
-take_nil zero = refl
-take_nil (suc n) = refl
-
 take_parts : (xs : List ℕ) (d e : ℕ) → d ≤ e → take d xs ++ take (e - d) (drop d xs) ≡ take e xs
-take_parts xs zero e l = let s : e - 0 ≡ e = omega arith in rw s
-take_parts [] (suc d) zero l = absurd (omega arith)
-take_parts [] (suc d) (suc e) l = take_nil (suc e - suc d)
-take_parts (x ∷ xs) (suc d) zero l = absurd (omega arith)
-take_parts (x ∷ xs) (suc d) (suc e) l = let s : suc e - suc d ≡ e - d = omega arith in rw s (ap (λ ys. x ∷ ys) (take_parts xs d e (omega arith)))
+take_parts xs d e l = let s : d + (e - d) ≡ e = omega arith in sym (take-add d (e - d) xs) ∙ ap (λ k. take k xs) s
 
 pub appends_none : (a : Option (List ℕ)) → Appends a a []
 appends_none None = tt

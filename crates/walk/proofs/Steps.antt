@@ -2,13 +2,12 @@
 use mathlib.Core.Bool.{Bool, true, false, cond}
 use mathlib.Core.List.{List}
 use mathlib.Core.Path.{◌≡◌, refl, sym, ap}
-use Prim.Native.Nat.{ℕ, zero, suc, ◌+◌, ◌-◌, ◌^◌, ◌≤◌, ◌<◌}
+use Prim.Native.Nat.{ℕ, zero, suc, ◌+◌, ◌-◌, ◌^◌, ◌≤◌}
 use native.Mathlib.Nat.{le_refl}
 use native.Mathlib.Omega.{arith}
 use borrow.Author.Tests.{ne_eqb}
 use lib.Dec.{eqb}
 use lib.Ieee.{Float}
-use lib.Pow.{pow_pos}
 use Rattle.bisection.specs.Walk.{onward, walk_of}
 use Rattle.bisection.proofs.Nodes.{pow_two}
 use Rattle.bisection.proofs.Walked.{half-size}
@@ -46,18 +45,12 @@ settled-size : (rule : Rule) (l : Leaf) (r : Reached) → size_of (settled rule 
 unfolding settled
 settled-size rule l r = le_refl r.1
 
-pub room_enter : (n d : ℕ) → n + 2 ^ suc d ≤ 2 ^ 32 → n + 1 < 2 ^ 32
-room_enter n d h = omega (arith, pow_two d, pow_pos d)
-
 -- the power of the level below
 level_below : (d : ℕ) → (d ≡ 0 → ⊥) → 2 ^ suc (d - 1) + 2 ^ suc (d - 1) ≡ 2 ^ suc d
 level_below zero f = absurd (f refl)
 level_below (suc d) f = let e : suc d - 1 ≡ d = omega arith in rw e (sym (pow_two (suc d)))
 
--- the count on entry, and after it
-pub room_low : (d n e : ℕ) → (d ≡ 0 → ⊥) → n + 2 ^ suc d ≤ 2 ^ 32 → e ≤ n + 1 → e + 2 ^ suc (d - 1) ≤ 2 ^ 32
-room_low d n e f h le = omega (arith, level_below d f, pow_pos (suc (d - 1)))
-
+-- behind the first half the second has room to count
 pub room_high : (rule : Rule) (c : Curve) (v : View) (p : Subcurve) (d n e m : ℕ) (l x : List Float) (r q : ℕ) → (d ≡ 0 → ⊥) → n + 2 ^ suc d ≤ 2 ^ 32 → e ≤ n + 1
     → reached q x m ≡ half_in rule c v (d - 1) p (reached r l e) → m + 2 ^ suc (d - 1) ≤ 2 ^ 32
 unfolding half_in reached
