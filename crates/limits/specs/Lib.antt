@@ -1,4 +1,6 @@
 pub mod Below
 pub mod List
+pub mod Ray
 pub mod Refusal
+pub mod Refused
 pub mod Within

@@ -2,12 +2,17 @@
 // (specs/Refusal) and a list that is written over (specs/List) are definitions alone.
 #![tactic(auto)]
 
-ghost use Rattle.std.specs.Prelude.{◌≡◌};
+ghost use Rattle.std.specs.Prelude.{◌≡◌, Ok};
+ghost use Rattle.limits.specs.Ray as rays;
+ghost use Rattle.limits.specs.Refused as refused;
 ghost use Rattle.limits.specs.Refusal.{first_of};
 ghost use Rattle.limits.specs.Within.{within, width_within, row_within, matrix_within, ray_within, ray_refusals};
 
+mod refusal;
+
 use geometry::Ray;
 use matrix::{Matrix4x4, Row};
+pub use refusal::Refusal;
 
 // How far a coordinate, a matrix entry or a time may be from zero.
 pub const LARGEST: f32 = 1048576.0;
@@ -64,4 +69,22 @@ pub fn ray_refusal(object_to_world: Matrix4x4, world_to_object: Matrix4x4, ray: 
     } else {
         10
     }
+}
+
+/// Whether the matrices, then the ray, are within the limits: refusal 10 or 11 where they are not.
+#[tactic(auto, unfolding(crate::specs::Ray::ray_refusals, crate::specs::Refused::first_of))]
+pub fn check_ray(
+    object_to_world: Matrix4x4,
+    world_to_object: Matrix4x4,
+    ray: Ray,
+) -> Result<(), Refusal>
+    ensures { result ≡ refused.told (refused.first_of (rays.ray_refusals object_to_world world_to_object ray)) (Ok tt) }
+{
+    if !(is_matrix_within(object_to_world) & is_matrix_within(world_to_object)) {
+        return Err(Refusal::Matrix);
+    }
+    if !is_ray_within(ray) {
+        return Err(Refusal::Ray);
+    }
+    Ok(())
 }
