@@ -18,5 +18,5 @@ mod Pattern
 mod Product
 mod Rooting
 mod Shapes
+mod StdRoot
 pub mod Signs
-mod Zero

@@ -5,12 +5,12 @@ use lib.Ieee.{Float, nan, inf, fin, Format, prec, emax, low, hid, ones, top, is_
 use lib.Ieee.Fits.{two, reach, round-fits}
 use lib.Ieee.Exact.{HasValue, units_val}
 use lib.Ieee.Positive.{num, den, positive, den_pos, value→cross}
-use Rattle.float.specs.Root.{isqrt, raised, root_at, sqrt_at, NearestRoot}
+use Rattle.float.specs.Root.{isqrt, root_at, sqrt_at, NearestRoot}
 use Rattle.float.proofs.Fields.{read, digits_in, field_in, finite_at, infinite_at, significand}
 use Rattle.float.proofs.Isqrt.{isqrt_is, isqrt-ge, square_suc}
 use Rattle.float.proofs.Pattern.{four_pow, twice_hid, same_value}
 use Rattle.float.proofs.Rooting.{radicand, dropped, root_digits, radicand_ge, radicand_even, digits_lt, parts, one_more, root-at, odd_square}
-use Rattle.float.proofs.Shapes.{Shape, shape_root, shape_normal, shape_subnormal, shift, scaled}
+use Rattle.float.proofs.Shapes.{raised, Shape, shape_root, shape_normal, shape_subnormal, shift, scaled}
 
 -- ---- the root of m * 2 ^ t
 
@@ -138,7 +138,7 @@ shape_of f x h p =
 
 module _ (f : Format) (x : Float) (h : T (fits f x)) (p : T (positive x)) where
   -- x is m * 2 ^ t of 1 / 4 ^ low
-  units_of : (m : ℕ) × (t : ℕ) × (num x * 4 ^ low f ≡ m * 2 ^ t * den x) × Shape f x m t
+  pub units_of : (m : ℕ) × (t : ℕ) × (num x * 4 ^ low f ≡ m * 2 ^ t * den x) × Shape f x m t
   unfolding Shaped
   units_of =
       let z = shape_of f x h p in

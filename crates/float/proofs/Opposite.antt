@@ -7,7 +7,12 @@ use Rattle.float.specs.Arith.{0f}
 use Rattle.float.specs.Basic.{abs_of}
 use Rattle.float.specs.Narrow.{narrow_at}
 use Rattle.float.proofs.Narrowing.{narrow-kept}
-use Rattle.float.proofs.Zero.{any_sign}
+
+-- the sign has no part in whether a value fits
+any_sign : (s t : Bool) (m : ℕ) (e : ℤ) → T (fits binary32 (fin s m e)) → T (fits binary32 (fin t m e))
+unfolding fits
+any_sign s t zero e h = h
+any_sign s t (suc m) e h = h
 
 -- a value's own fraction is rounded to the value
 own : (s t : Bool) (m : ℕ) (e : ℤ) (a c : ℕ) → T (fits binary32 (fin s m e)) → a ≡ m * up e → c ≡ down e → round binary32 t a c ≡ fin t m e

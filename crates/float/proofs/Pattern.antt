@@ -1,4 +1,4 @@
--- The float that is built from a sign, an exponent's field and digits is the rounding of a fraction: `built`, for either format. `narrow` and `sqrt` both rest on it.
+-- The float that is built from a sign, an exponent's field and digits is the rounding of a fraction: `built`, for either format, on which `narrow` rests.
 -- A pattern without its sign is k * 2 ^ (prec - 1) + q for q * 2 ^ k units of the format's least value: the leading digit of q adds one to the field k.
 -- So a q that was rounded up to 2 ^ prec carries into the field, and past the last field the sum is the infinity's pattern. Assumes nothing.
 use Rattle.std.proofs.Common.{◌≡◌, ℕ, zero, suc, ◌+◌, ◌-◌, ◌*◌, ◌/◌, ◌^◌, ◌<◌, ◌≤◌, min, Bool, true, false, cond, not, T, ltb, ◌⊎◌, sym, refl, ap, ◌∙◌, subst, inl, inr, le_trans, le_of_eq, le_refl, lt_of_lt_of_le, lt_of_le_of_lt, le_of_lt, add_assoc, lt_irrefl, mul-le-mul_right, zero-lt-suc, mul_assoc, suc-mul, mul_comm, div-lt_iff_lt-mul, add-mul, le_antisymm, eq-or-lt_of_le, mul-le-mul_left, mul-lt-mul_of_pos_right, mul-pos, one-mul, pow-suc, lt_of_not-le, le-div_iff_mul-le, zero-add, zero-mul, mul-one, div-one, mul-div_cancel, mul_left_comm, arith, ltb→lt, nltb→le, pow_pos, pow_mono, pow-add, shl_lt}

@@ -1,19 +1,19 @@
--- The rounding of a whole-number root, for either format: what `root` builds is `root_at`. Assumes nothing.
+-- The rounding of a whole-number root, for either format: `root_at` of m * 2 ^ t is `root_digits` of its last digit. Assumes nothing.
 -- For n = c * 4 ^ j the root of n, cut, begins with the prec + 1 digits of q = isqrt c. The rounded root is half of q, rounded up: c is even, so where q is odd its square is no c, and there is more behind it.
-use Rattle.std.proofs.Common.{◌≡◌, ℕ, zero, suc, ◌+◌, ◌-◌, ◌*◌, ◌/◌, ◌%◌, ◌^◌, ◌<◌, ◌≤◌, min, false, not, T, sym, ap, ◌∙◌, subst, le_trans, le_of_eq, lt_of_lt_of_le, lt_of_le_of_lt, le_of_lt, lt_irrefl, mul-le-mul_right, mul_assoc, mul_comm, add-mul, mul-le-mul, mul-lt-mul_of_pos_right, one-mul, div-add-mod', mul-one, mul-suc, mul-add, mul_left_comm, arith, lit≤, pow_pos, pow_mono, pow-add}
+use Rattle.std.proofs.Common.{◌≡◌, ℕ, zero, suc, ◌+◌, ◌-◌, ◌*◌, ◌/◌, ◌%◌, ◌^◌, ◌<◌, ◌≤◌, false, sym, ap, ◌∙◌, subst, le_trans, le_of_eq, lt_of_lt_of_le, lt_of_le_of_lt, lt_irrefl, mul-le-mul_right, mul_assoc, mul_comm, add-mul, mul-le-mul, mul-lt-mul_of_pos_right, one-mul, div-add-mod', mul-one, mul-suc, mul-add, mul_left_comm, arith, lit≤, pow_pos, pow_mono, pow-add}
 use native.Mathlib.Nat.{pow-succ'}
-use lib.Ieee.{Format, binary32, binary64, prec, emax, low, hid, is_nan, units, of_bits}
-use lib.Ieee.Fits.{two}
+use lib.Ieee.{Format, binary32, binary64, prec, emax, low, hid, units}
 use lib.Bits.{shifted_even}
 use lib.Ieee.Nearest.{closest}
-use Rattle.float.specs.Root.{isqrt, raised, root_at}
+use Rattle.float.specs.Root.{isqrt, root_at}
 use Rattle.float.proofs.Closest.{closest_cut}
 use Rattle.float.proofs.Isqrt.{isqrt_is, isqrt-ge, isqrt-lt, double, square_suc}
-use Rattle.float.proofs.Pattern.{join, twice_hid, last, in_reach, pattern, round_by, built, round_no_nan}
+use Rattle.float.proofs.Pattern.{join, twice_hid, round_by}
+use Rattle.float.proofs.Shapes.{raised}
 
 -- ---- squares
 
-scaled : (x h : ℕ) → x * h * (x * h) ≡ x * x * h * h
+pub scaled : (x h : ℕ) → x * h * (x * h) ≡ x * x * h * h
 scaled x h = simp (mul_assoc, mul_left_comm)
 
 -- an odd number's square is odd
@@ -29,10 +29,10 @@ module _ (c h : ℕ) (even : c % 2 ≡ 0) where
   abbrev w : ℕ
   w = isqrt (c * h * h)
 
-  cut_ge : q * h ≤ w
+  pub cut_ge : q * h ≤ w
   cut_ge = isqrt-ge (c * h * h) (q * h) (le_trans (le_of_eq (scaled q h)) (mul-le-mul_right h (mul-le-mul_right h (isqrt_is c).0)))
 
-  cut_lt : 0 < h → w < (q + 1) * h
+  pub cut_lt : 0 < h → w < (q + 1) * h
   cut_lt H = isqrt-lt (c * h * h) ((q + 1) * h) (lt_of_lt_of_le (mul-lt-mul_of_pos_right (mul-lt-mul_of_pos_right (isqrt_is c).1 H) H) (le_of_eq (sym (scaled (q + 1) h))))
 
   -- (q * h + 1) ^ 2 is at most (q * q + 1) * h * h
@@ -94,12 +94,6 @@ module _ (f : Format) (c j : ℕ) (even : c % 2 ≡ 0) (lo : 2 ^ prec f * 2 ^ pr
       round_by f false (isqrt n) (2 ^ low f) (isqrt n) (2 ^ suc j) (suc j) (pow_pos (low f)) (pow_pos (suc j)) (mul_assoc (isqrt n) (2 ^ low f) (2 ^ suc j)) fine (λ _. lead)
       ∙ ap (λ (x : ℕ). units f false x (suc j)) (sym halved)
 
-  root_built : of_bits f (pattern f false (suc j * hid f + (isqrt c + 1) / 2)) ≡ root_at f n
-  unfolding root_at
-  root_built =
-      ap (λ (x : ℕ). of_bits f (pattern f false (suc j * hid f + x))) halved
-      ∙ built f false (isqrt n) (2 ^ low f) (isqrt n) (2 ^ suc j) (suc j) (pow_pos (low f)) (pow_pos (suc j)) (mul_assoc (isqrt n) (2 ^ low f) (2 ^ suc j)) fine (λ _. lead)
-
 -- ---- m * 2 ^ t, for an m of prec digits: it is c * 4 ^ (dropped - 1), where the parity of t - prec says whether c, the radicand, has 2 * prec + 2 digits or one less
 
 abbrev pub radicand : Format → ℕ → ℕ → ℕ
@@ -112,10 +106,6 @@ dropped f t = (t + 1 - prec f) / 2
 -- the root's digits
 abbrev pub root_digits : Format → ℕ → ℕ → ℕ
 root_digits f m t = (isqrt (radicand f m t) + 1) / 2
-
--- what `root` hands to `nearest_or_guess` is a quarter of c
-pub radicand_four : (f : Format) (m t : ℕ) → 4 * (m * 2 ^ (prec f - (t + prec f) % 2)) ≡ radicand f m t
-radicand_four f m t = let i = prec f - (t + prec f) % 2 in mul_comm 4 (m * 2 ^ i) ∙ join m i 2 ∙ ap (λ (x : ℕ). m * 2 ^ x) (omega (arith, two f))
 
 -- the exponents go so far down that the root of even the least value has digits to drop, more of them than it keeps
 deep : (f : Format) → 3 * prec f + 8 ≤ emax f
@@ -130,7 +120,7 @@ under_square (suc y) h =
     let e : y * (suc y * 4) ≡ (y * y + y) * 4 = sym (mul_assoc y (suc y) 4) ∙ ap (λ (x : ℕ). x * 4) (mul-suc y y) in
     rw (a, b) (omega (arith, square_suc (2 * y), double y))
 
--- t is that of a pattern whose field is raised by prec, below the infinity
+-- m and t are those of a value's `Shape`
 module _ (f : Format) (m t : ℕ) (lo : hid f ≤ m) (hi : m < 2 ^ prec f) (L : raised f ≤ t) (H : t < low f + 2 * emax f) where
   abbrev c : ℕ
   c = radicand f m t
@@ -150,7 +140,7 @@ module _ (f : Format) (m t : ℕ) (lo : hid f ≤ m) (hi : m < 2 ^ prec f) (L : 
       le_trans (le_of_eq (ap (λ (x : ℕ). x * z) (twice_hid f ∙ mul_comm 2 (hid f)) ∙ mul_assoc (hid f) 2 z ∙ ap (λ (x : ℕ). hid f * x) (mul_comm 2 z ∙ sym (pow-add 2 (prec f) 1))))
       (mul-le-mul lo (pow_mono {i = prec f + 1} {j = prec f + 2 - (t + prec f) % 2} (omega arith)))
 
-  radicand_lt : c < (2 * 2 ^ prec f - 1) * (2 * 2 ^ prec f - 1)
+  pub radicand_lt : c < (2 * 2 ^ prec f - 1) * (2 * 2 ^ prec f - 1)
   radicand_lt =
       lt_of_le_of_lt (mul-le-mul {n₂ = 2 ^ prec f - 1} (omega arith) (pow_mono {i = prec f + 2 - (t + prec f) % 2} {j = prec f + 2} (omega arith)))
       (subst (λ (x : ℕ). (2 ^ prec f - 1) * x < (2 * 2 ^ prec f - 1) * (2 * 2 ^ prec f - 1)) (sym (pow-add 2 (prec f) 2)) (under_square (2 ^ prec f) (pow_pos (prec f))))
@@ -177,18 +167,3 @@ module _ (f : Format) (m t : ℕ) (lo : hid f ≤ m) (hi : m < 2 ^ prec f) (L : 
 
   pub root-at : root_at f (m * 2 ^ t) ≡ units f false (root_digits f m t) (dropped f t)
   root-at = ap (root_at f) (sym parts) ∙ root_units f c half radicand_even radicand_ge radicand_lt room ∙ ap (units f false (root_digits f m t)) one_more
-
-  pub built_at : of_bits f (dropped f t * hid f + root_digits f m t) ≡ root_at f (m * 2 ^ t)
-  built_at =
-      let w = dropped f t * hid f + root_digits f m t in
-      ap (of_bits f) (small w (last f) (in_reach f (dropped f t) (root_digits f m t) (omega (arith, deep f)) (le_of_lt digits_lt)))
-      ∙ ap (λ (x : ℕ). of_bits f (pattern f false (x * hid f + root_digits f m t))) (sym one_more)
-      ∙ root_built f c half radicand_even radicand_ge radicand_lt room
-      ∙ ap (root_at f) parts
-    where
-      small : (w y : ℕ) → w ≤ y → w ≡ 0 + min w y
-      small w y l = omega arith
-
-pub root_no_nan : (f : Format) (n : ℕ) → T (not (is_nan (root_at f n)))
-unfolding root_at
-root_no_nan f n = round_no_nan f false (isqrt n) (2 ^ low f)

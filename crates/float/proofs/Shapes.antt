@@ -1,13 +1,11 @@
--- A value of either format that is finite and above zero as m * 2 ^ t of 1 / 4 ^ low, with an m of prec digits, by the fields of its pattern: what `sqrt` hands to `root`. Assumes nothing.
-use Rattle.std.proofs.Common.{◌≡◌, ℕ, zero, suc, ◌+◌, ◌-◌, ◌*◌, ◌/◌, ◌%◌, ◌^◌, ◌<◌, ◌≤◌, Bool, true, false, leb, ℤ, sym, ap, ◌∙◌, subst, true≢false, lt_of_lt_of_le, le-add_right, lt_of_le_of_lt, lt_irrefl, mul-le-mul_right, mod-eq_of_lt, mul_assoc, add_comm, mul-pos, zero-mul, mul-one, mul_right_comm, mul-div_cancel, le-add_left, arith, pow_pos, pow_mono, pow-add, shl_lt}
-use lib.Arith.{lt→nleb}
+-- A value of either format that is finite and above zero as m * 2 ^ t of 1 / 4 ^ low, with an m of prec digits, by the fields of its pattern. Assumes nothing.
+use Rattle.std.proofs.Common.{◌≡◌, ℕ, zero, suc, ◌+◌, ◌-◌, ◌*◌, ◌/◌, ◌^◌, ◌<◌, ◌≤◌, true, false, ℤ, sym, ap, ◌∙◌, subst, true≢false, lt_of_lt_of_le, le-add_right, lt_of_le_of_lt, lt_irrefl, mul-le-mul_right, mul_assoc, add_comm, mul-pos, zero-mul, mul-one, mul_right_comm, mul-div_cancel, le-add_left, arith, pow_pos, pow_mono, pow-add, shl_lt}
 use lib.Count.{count_leading_zeros, leading_top}
-use lib.Ieee.{Float, nan, inf, fin, Format, prec, emax, low, up, down, hid, ones, top, of_fields}
+use lib.Ieee.{Float, nan, inf, fin, Format, prec, emax, low, up, down, hid, ones, of_fields}
 use lib.Ieee.Fits.{two, reach, down_pos}
-use lib.Ieee.Bits.{is_false}
 use lib.Ieee.Exact.{HasValue}
-use Rattle.float.specs.Root.{raised, root_at, sqrt_at}
-use Rattle.float.proofs.Fields.{at, finite_at}
+use Rattle.float.specs.Root.{root_at, sqrt_at}
+use Rattle.float.proofs.Fields.{finite_at}
 use Rattle.float.proofs.Pattern.{join, four_pow, twice_hid, pow_lt_back}
 
 -- ---- a value's root, by the number of least values that it is
@@ -32,7 +30,11 @@ root_of f (fin false (suc m) e) a h A = ap (root_at f) (ap (λ (x : ℕ). x / do
 
 -- ---- the two shapes
 
--- m has prec digits, t is that of a pattern whose field is raised by prec, below the infinity, and v is a least values
+-- A value's field E means 2 ^ (E - 1) least values, which are 2 ^ (E - 1 + low) of 1 / 4 ^ low. A subnormal's digits are shifted by less than prec places, so that they too have a leading one.
+abbrev pub raised : Format → ℕ
+raised f = low f - suc (prec f)
+
+-- m has prec digits, t is no less than a subnormal's and below the infinity's, and v is a least values
 abbrev pub Shape : Format → Float → ℕ → ℕ → Type 0
 Shape f v m t = (hid f ≤ m) × (m < 2 ^ prec f) × (raised f ≤ t) × (t < low f + 2 * emax f) × ((a : ℕ) × (0 < a) × HasValue v false a (2 ^ low f) × (a * 2 ^ low f ≡ m * 2 ^ t))
 
@@ -58,7 +60,7 @@ shape_normal f (suc E) t h l g = (
 abbrev pub shift : Format → ℕ → ℕ → ℕ
 shift f w t = count_leading_zeros w t - (w - prec f)
 
-pub shift_of : (f : Format) (w t : ℕ) → prec f ≤ w → 0 < t → t < hid f → (w - prec f ≤ count_leading_zeros w t) × (shift f w t < prec f) × (hid f ≤ t * 2 ^ shift f w t) × (t * 2 ^ shift f w t < 2 ^ prec f)
+shift_of : (f : Format) (w t : ℕ) → prec f ≤ w → 0 < t → t < hid f → (w - prec f ≤ count_leading_zeros w t) × (shift f w t < prec f) × (hid f ≤ t * 2 ^ shift f w t) × (t * 2 ^ shift f w t < 2 ^ prec f)
 shift_of f w t W P h =
     let z = leading_top w t P (lt_of_lt_of_le h (pow_mono (omega arith))) in
     let j = z.0 in
@@ -98,8 +100,3 @@ shape_subnormal f w t W P h =
   where
     all : (s l : ℕ) → s ≤ l → s + (l - s) ≡ l
     all s l h = omega arith
-
--- ---- the pattern of a value with the sign clear
-
-pub clear_at : (f : Format) (b : ℕ) → b < top f → at f b ≡ of_fields f false (b / hid f) (b % hid f)
-clear_at f b h = ap (λ (s : Bool). of_fields f s (b % top f / hid f) (b % hid f)) (is_false (leb (top f) b) (lt→nleb (top f) b h)) ∙ ap (λ (x : ℕ). of_fields f false (x / hid f) (b % hid f)) (mod-eq_of_lt h)

@@ -1,8 +1,8 @@
 -- The square root is the nearest value to the root, and no other value is. Assumes nothing.
 use Rattle.std.proofs.Common.{◌≡◌, ◌*◌, ◌/◌, ◌^◌, T, refl}
-use lib.Ieee.{Float, binary32, low, round, fits, of_bits}
+use lib.Ieee.{Float, binary32, low, round, root_below, fits, of_bits}
 use lib.Ieee.Positive.{num, den, positive}
-use Rattle.float.specs.Root.{root_in, isqrt, root_at, sqrt_at, sqrt_of, NearestRoot}
+use Rattle.float.specs.Root.{isqrt, root_at, sqrt_at, sqrt_of, NearestRoot}
 use Rattle.float.proofs.NearestRoot.{nearest-root, nearest-only, quotient_exact}
 
 -- Of a value x that is finite and above zero, num x / den x, it is the nearest value to the root: it is less than half of its last digit away, which is said by whole squares.
@@ -20,15 +20,15 @@ radicand_exact = quotient_exact binary32
 
 -- √2
 pub root_two : sqrt_of (of_bits binary32 0x4000_0000) ≡ of_bits binary32 0x3fb5_04f3
-unfolding sqrt_of sqrt_at root_at isqrt root_in round of_bits
+unfolding sqrt_of sqrt_at root_at isqrt root_below round of_bits
 root_two = refl
 
 -- the root of the least subnormal
 pub root-least : sqrt_of (of_bits binary32 1) ≡ of_bits binary32 0x1a35_04f3
-unfolding sqrt_of sqrt_at root_at isqrt root_in round of_bits
+unfolding sqrt_of sqrt_at root_at isqrt root_below round of_bits
 root-least = refl
 
 -- The largest value below 1 is its own root. 1 is within half of its own last digit of that root, but not within half of the root's, which is half as large.
 pub root_below_one : sqrt_of (of_bits binary32 0x3f7f_ffff) ≡ of_bits binary32 0x3f7f_ffff
-unfolding sqrt_of sqrt_at root_at isqrt root_in round of_bits
+unfolding sqrt_of sqrt_at root_at isqrt root_below round of_bits
 root_below_one = refl

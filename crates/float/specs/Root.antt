@@ -1,17 +1,12 @@
 -- The words of the contract of `sqrt`, for any format, and for binary32. Definitions only. That `sqrt_of x` is the value nearest to the root, and that no other value is, are the laws of `proofs/SqrtCorrect.antt`.
-use Rattle.std.specs.Prelude.{ℕ, zero, suc, ◌+◌, ◌-◌, ◌*◌, ◌/◌, ◌%◌, ◌^◌, ◌<◌, ◌≤◌, true, false, cond, T, nat_le, Float}
+use Rattle.std.specs.Prelude.{ℕ, zero, suc, ◌+◌, ◌-◌, ◌*◌, ◌/◌, ◌^◌, ◌<◌, ◌≤◌, true, false, T, Float}
 use Rattle.std.specs.Float.Ieee.Exact.{HasValue}
 use Rattle.std.specs.Float.{nan, inf, fin, Format, binary32}
-use Rattle.std.specs.Float.Ieee.{prec, low, hid, up, down, size, round, fits}
-
--- The largest r with r * r ≤ n, for an n below 4 ^ d: twice the root of n / 4, or one more.
-unfoldable pub root_in : ℕ → ℕ → ℕ
-root_in zero n = 0
-root_in (suc d) n = let r = 2 * root_in d (n / 4) in cond (nat_le ((r + 1) * (r + 1)) n) (r + 1) r
+use Rattle.std.specs.Float.Ieee.{prec, low, hid, up, down, size, round, root_below, fits}
 
 -- The whole-number root: the largest r with r * r ≤ n
 unfoldable pub isqrt : ℕ → ℕ
-isqrt n = root_in (size n) n
+isqrt n = root_below (size n) n
 
 -- The root of n / 4 ^ low, rounded to the format. √(n / 4 ^ low) is √n / 2 ^ low: √n in units of the format's least value.
 -- √n is cut to a whole number before it is rounded, which changes nothing, as the law says.
@@ -43,11 +38,3 @@ pub record NearestRoot (f : Format) (n d : ℕ) (r : Float) : Type 0 where
   pub full : hid f * hid f * 4 ^ places * d ≤ n * 4 ^ low f
   pub above : (2 * digits - 1) * (2 * digits - 1) * 4 ^ places * d < 4 * (n * 4 ^ low f)
   pub below : 4 * (n * 4 ^ low f) < (2 * digits + 1) * (2 * digits + 1) * 4 ^ places * d
-
--- What `root` gives for a pattern whose exponent's field is raised by prec, so that a subnormal value has a leading digit too.
--- A value's own field E means 2 ^ (E - 1) least values, which are 2 ^ (E - 1 + low) of 1 / 4 ^ low.
-abbrev pub raised : Format → ℕ
-raised f = low f - suc (prec f)
-
-abbrev pub root_of_raised : Format → ℕ → Float
-root_of_raised f pattern = root_at f ((pattern % hid f + hid f) * 2 ^ (pattern / hid f + raised f))

@@ -7,12 +7,10 @@ ghost use Rattle.std.specs.Float.{binary32};
 ghost use Rattle.std.specs.Float.Ieee.{prec, hid, ones};
 ghost use Rattle.float.specs.Basic.{abs_of, max_of, min_of};
 ghost use Rattle.float.specs.Narrow.{narrow_of, narrow_rest};
-ghost use Rattle.float.specs.Root.{isqrt, root_of_raised, sqrt_of};
+ghost use Rattle.float.specs.Root.{sqrt_of};
 
-mod guess;
 mod rounding;
 
-use guess::estimate;
 use rounding::shift_nearest;
 pub use rounding::{Rounded, Ties, round_product};
 
@@ -117,77 +115,10 @@ fn narrow_rest(magnitude: u64) -> u64
     }
 }
 
-// The square root of x, rounded to the nearest value. A zero gives itself, and what is below zero a
-// NaN. Above zero the field of the exponent decides.
+// The square root of x, rounded to the nearest value. A zero gives itself, and what is below zero a NaN.
+#[tactic(auto, using(crate::proofs::StdRoot::root_by_std))]
 pub fn sqrt(x: f32) -> f32
     ensures { result ≡ sqrt_of x }
 {
-    if 0.0 < x {
-        let bits: u32 = f32::to_bits(x);
-        let exponent = (bits >> 23) as u8;
-        match exponent {
-            0 => {
-                let zeros = u32::leading_zeros(bits) - 8;
-                root((bits << zeros) + ((24 - zeros) << 23))
-            }
-            1..=254 => root(bits + (24 << 23)),
-            255 => x,
-        }
-    } else if x == 0.0 {
-        x // a zero of either sign
-    } else {
-        0.0 / 0.0
-    }
-}
-
-// The root of a value above zero, by its pattern. 24 is added to the field of the exponent, so that
-// a subnormal value has a leading digit too. The digits are shifted by 24 places, or by 23 where the
-// exponent is odd: that leaves an even exponent, and their root has 24 digits again.
-fn root(pattern: u32) -> f32
-    requires { pattern < (ones binary32 + prec binary32) * hid binary32 }
-    ensures { result ≡ root_of_raised binary32 pattern }
-{
-    let exponent = pattern >> 23;
-    let digits = (pattern % 0x80_0000 + 0x80_0000) as u64;
-    let guess = estimate(pattern);
-    let d = nearest_or_guess(digits << (24 - exponent % 2), guess);
-    // d counts 2^((exponent + 101) / 2) least values, and its leading digit adds one to the field
-    f32::from_bits((((exponent + 101) / 2) << 23) + d as u32)
-}
-
-// √n, rounded to a whole number. The guess is tested before the search, whose loop is seldom needed.
-fn nearest_or_guess(n: u64, guess: u64) -> u64
-    requires le_n { 1 ≤ n }
-    requires n_bound { n < 2 ^ (2 * prec binary32) }
-    requires guess_bound { guess < 2 ^ suc (prec binary32) }
-    ensures { result ≡ (isqrt (4 * n) + 1) / 2 }
-{
-    let square = guess * guess;
-    if square < n + guess {
-        if n <= square + guess {
-            return guess;
-        }
-    }
-    nearest_root(n, guess)
-}
-
-// √n, rounded to a whole number: the d with d * d - d < n <= d * d + d. The search starts at a
-// guess, whatever it is, so only its speed depends on the guess.
-fn nearest_root(n: u64, guess: u64) -> u64
-    requires le_n { 1 ≤ n }
-    requires n_bound { n < 2 ^ (2 * prec binary32) }
-    requires guess_bound { guess < 2 ^ suc (prec binary32) }
-    ensures { result ≡ (isqrt (4 * n) + 1) / 2 }
-{
-    let mut d = guess;
-    loop {
-        let square = d * d;
-        if n + d <= square {
-            d -= 1;
-        } else if square + d < n {
-            d += 1;
-        } else {
-            return d;
-        }
-    }
+    x.sqrt()
 }
