@@ -1,4 +1,4 @@
--- Normals. The Rust file is not supplied: 01 says how they behave. Definitions only.
+-- Normals. Definitions only.
 use Rattle.std.specs.Prelude.{Float}
 use Rattle.float.specs.Arith.{◌⊗◌}
 use Rattle.geometry.specs.declared.normal.Normal3f.{Normal3f}

@@ -1,13 +1,11 @@
--- Points. The Rust file is not supplied: 01 says how they behave. Definitions only.
-use Rattle.std.specs.Prelude.{ℕ, ◌+◌, Bool, cond, ◌&&◌, List, get_or, Float}
+-- Points. Definitions only.
+use Rattle.std.specs.Prelude.{ℕ, ◌+◌, Bool, cond, ◌&&◌, List, get_or, Option, None, Some, Float}
 use Rattle.std.specs.Float.{nan}
 use Rattle.std.specs.Float.Ieee.{eq}
 use Rattle.float.specs.Arith.{◌⊕◌, ◌⊖◌, ◌⊗◌, ◌⊘◌, 0f, 1f}
 use Rattle.float.specs.Basic.{min_of, max_of}
 use Rattle.geometry.specs.declared.point.Point2f.{Point2f}
 use Rattle.geometry.specs.declared.point.Point3f.{Point3f}
-use Rattle.geometry.specs.declared.point.DividedPoint.{DividedPoint}
-use Rattle.geometry.specs.declared.point.DividedPoint.TheVariants.{Point, ByZero}
 use Rattle.geometry.specs.declared.vector.Vector2f.{Vector2f}
 use Rattle.geometry.specs.declared.vector.Vector3f.{Vector3f}
 use Rattle.geometry.specs.Pbrt.{lerp_of}
@@ -48,8 +46,8 @@ unfoldable pub point_scaled : Point3f → Float → Point3f
 point_scaled p k = record { x = p.x ⊗ k; y = p.y ⊗ k; z = p.z ⊗ k }
 
 -- p / k: one reciprocal, and three products
-unfoldable pub point_divided : Point3f → Float → DividedPoint
-point_divided p k = cond (eq k 0f) ByZero (Point (point_scaled p (1f ⊘ k)))
+unfoldable pub point_divided : Point3f → Float → Option Point3f
+point_divided p k = cond (eq k 0f) None (Some (point_scaled p (1f ⊘ k)))
 
 unfoldable pub distance_of : Point3f → Point3f → Float
 distance_of p q = length_of (difference p q)

@@ -1,5 +1,5 @@
 -- Vectors: core/geometry/vector.rs. Definitions only.
-use Rattle.std.specs.Prelude.{ℕ, ◌+◌, cond, List, get_or, Float}
+use Rattle.std.specs.Prelude.{ℕ, ◌+◌, cond, List, get_or, Option, None, Some, Float}
 use Rattle.std.specs.Float.{nan, binary64}
 use Rattle.std.specs.Float.Ieee.{mul, sub, neg, eq, lt}
 use Rattle.float.specs.Arith.{◌⊕◌, ◌⊗◌, ◌⊘◌, 0f, 1f}
@@ -8,11 +8,7 @@ use Rattle.float.specs.Narrow.{narrow_of}
 use Rattle.float.specs.Root.{sqrt_of}
 use Rattle.geometry.specs.declared.vector.Vector2f.{Vector2f}
 use Rattle.geometry.specs.declared.vector.Vector3f.{Vector3f}
-use Rattle.geometry.specs.declared.vector.Divided.{Divided}
-use Rattle.geometry.specs.declared.vector.Divided.TheVariants.{Vector, ByZero}
 use Rattle.geometry.specs.declared.vector.Crossed.{Crossed}
-use Rattle.geometry.specs.declared.vector.CoordinateSystem.{CoordinateSystem}
-use Rattle.geometry.specs.declared.vector.CoordinateSystem.TheVariants.{Axes, ZeroLength}
 
 -- ---- Vector2
 
@@ -39,8 +35,8 @@ unfoldable pub scaled : Vector3f → Float → Vector3f
 scaled v k = record { x = v.x ⊗ k; y = v.y ⊗ k; z = v.z ⊗ k }
 
 -- v / k: one reciprocal, and three products. A zero of either sign is the assertion that fails.
-unfoldable pub divided : Vector3f → Float → Divided
-divided v k = cond (eq k 0f) ByZero (Vector (scaled v (1f ⊘ k)))
+unfoldable pub divided : Vector3f → Float → Option Vector3f
+divided v k = cond (eq k 0f) None (Some (scaled v (1f ⊘ k)))
 
 unfoldable pub dot_of : Vector3f → Vector3f → Float
 dot_of v w = v.x ⊗ w.x ⊕ v.y ⊗ w.y ⊕ v.z ⊗ w.z
@@ -54,7 +50,7 @@ length_squared v = v.x ⊗ v.x ⊕ v.y ⊗ v.y ⊕ v.z ⊗ v.z
 unfoldable pub length_of : Vector3f → Float
 length_of v = sqrt_of (length_squared v)
 
-unfoldable pub normalized : Vector3f → Divided
+unfoldable pub normalized : Vector3f → Option Vector3f
 normalized v = divided v (length_of v)
 
 -- a * b - c * d at f64, as f32
@@ -79,11 +75,11 @@ crossed_of a b = record { v = cross_of a b; length_squared = length_squared (cro
 -- ---- vec3_coordinate_system
 
 -- v3 from v1 and v2
-unfoldable pub axes_of : Vector3f → Divided → CoordinateSystem
-axes_of v1 (Vector v2) = Axes v2 (cross_of v1 v2)
-axes_of v1 ByZero = ZeroLength
+unfoldable pub axes_of : Vector3f → Option Vector3f → Option (Vector3f × Vector3f)
+axes_of v1 (Some v2) = Some (v2, cross_of v1 v2)
+axes_of v1 None = None
 
-unfoldable pub coordinate_system : Vector3f → CoordinateSystem
+unfoldable pub coordinate_system : Vector3f → Option (Vector3f × Vector3f)
 coordinate_system v1 =
     cond (lt (abs_of v1.y) (abs_of v1.x))
     (axes_of v1 (divided (record { x = neg v1.z; y = 0f; z = v1.x }) (sqrt_of (v1.x ⊗ v1.x ⊕ v1.z ⊗ v1.z))))

@@ -1,10 +1,12 @@
 // Boxes: core/geometry/bounds.rs.
+#![tactic(auto, unfolding(crate::specs::Bounds::bounds_at, crate::specs::Bounds::with_point))]
+
 ghost use Rattle.std.specs.Prelude.{◌≡◌};
 ghost use Rattle.geometry.specs.Bounds.{bounds_at, with_point};
 
 use crate::point::Point3f;
 
-#[derive(Clone, Copy)]
+#[derive(Clone, Copy, Debug, PartialEq)]
 pub struct Bounds3f {
     pub p_min: Point3f,
     pub p_max: Point3f,

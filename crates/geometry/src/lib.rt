@@ -1,7 +1,6 @@
 // Points, vectors, normals, boxes and rays of floats, with the operations that a flat curve needs:
 // core/geometry and core/pbrt.rs of pbrt-rust, by their names and in their order of operations.
-// The Rust's generic types are structs of floats, its operators are methods, and where it panics on
-// a division by zero the answer is an enum.
+// The Rust's generic types are structs of floats, and where it panics on a division by zero there is no answer.
 #![tactic(auto)]
 
 mod bounds;
@@ -14,8 +13,6 @@ mod vector;
 pub use bounds::Bounds3f;
 pub use normal::Normal3f;
 pub use pbrt::{clamp, gamma, lerp};
-pub use point::{DividedPoint, POINT_FLOATS, Point2f, Point3f, point_from};
+pub use point::{POINT_FLOATS, Point2f, Point3f, point_from};
 pub use ray::{RAY_FLOATS, Ray, ray_from};
-pub use vector::{
-    CoordinateSystem, Crossed, Divided, Vector2f, Vector3f, vec3_coordinate_system, vector_from,
-};
+pub use vector::{Crossed, Vector2f, Vector3f, vec3_coordinate_system, vector_from};

@@ -1,4 +1,6 @@
 // Numbers: core/pbrt.rs.
+#![tactic(auto, unfolding(crate::specs::Pbrt::lerp_of, crate::specs::Pbrt::clamp_of, crate::specs::Pbrt::gamma_of))]
+
 ghost use Rattle.std.specs.Prelude.{◌≡◌};
 ghost use Rattle.geometry.specs.Pbrt.{lerp_of, clamp_of, gamma_of};
 

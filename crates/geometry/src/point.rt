@@ -1,20 +1,25 @@
 // Points: they go by component, as vectors do.
+#![tactic(auto, unfolding(crate::specs::Point::point_from, crate::specs::Point::difference2, crate::specs::Point::plus, crate::specs::Point::moved, crate::specs::Point::difference, crate::specs::Point::point_scaled, crate::specs::Point::point_divided, crate::specs::Point::least_of, crate::specs::Point::greatest_of, crate::specs::Point::point_lerp, crate::specs::Point::points_equal))]
+
 ghost use Rattle.std.specs.Prelude.{◌≡◌, ◌+◌, ◌≤◌, length};
 ghost use Rattle.geometry.specs.Point.{point_from, difference2, plus, moved, difference, point_scaled, point_divided, least_of, greatest_of, point_lerp, points_equal};
 
 use crate::pbrt::lerp;
 use crate::vector::{Vector2f, Vector3f};
+use std::ops::{Add, Mul, Sub};
 
-#[derive(Clone, Copy)]
+#[derive(Clone, Copy, Debug)]
 pub struct Point2f {
     pub x: f32,
     pub y: f32,
 }
 
-impl Point2f {
-    pub fn sub(self, p: Point2f) -> Vector2f
-        ensures { result ≡ difference2 self p }
-    {
+impl Sub for Point2f {
+    type Output = Vector2f;
+
+    ghost sub_gives = { λ p q r. r ≡ difference2 p q };
+
+    fn sub(self, p: Point2f) -> Vector2f {
         Vector2f {
             x: self.x - p.x,
             y: self.y - p.y,
@@ -22,7 +27,8 @@ impl Point2f {
     }
 }
 
-#[derive(Clone, Copy)]
+// Equal points are equal in each coordinate: -0 equals 0, and a NaN equals nothing.
+#[derive(Clone, Copy, Debug, PartialEq)]
 pub struct Point3f {
     pub x: f32,
     pub y: f32,
@@ -44,63 +50,72 @@ pub fn point_from(s: &[f32], at: usize) -> Point3f
     }
 }
 
-// A point divided by a number, or that the number is zero.
-#[derive(Clone, Copy)]
-pub enum DividedPoint {
-    Point(Point3f),
-    ByZero,
-}
+impl Add for Point3f {
+    type Output = Point3f;
 
-impl Point3f {
-    pub fn add(self, p: Point3f) -> Point3f
-        ensures { result ≡ plus self p }
-    {
+    ghost add_gives = { λ p q r. r ≡ plus p q };
+
+    fn add(self, p: Point3f) -> Point3f {
         Point3f {
             x: self.x + p.x,
             y: self.y + p.y,
             z: self.z + p.z,
         }
     }
+}
 
-    pub fn add_vector(self, v: Vector3f) -> Point3f
-        ensures { result ≡ moved self v }
-    {
+impl Add<Vector3f> for Point3f {
+    type Output = Point3f;
+
+    ghost add_gives = { λ p v r. r ≡ moved p v };
+
+    fn add(self, v: Vector3f) -> Point3f {
         Point3f {
             x: self.x + v.x,
             y: self.y + v.y,
             z: self.z + v.z,
         }
     }
+}
 
-    pub fn sub(self, p: Point3f) -> Vector3f
-        ensures { result ≡ difference self p }
-    {
+impl Sub for Point3f {
+    type Output = Vector3f;
+
+    ghost sub_gives = { λ p q r. r ≡ difference p q };
+
+    fn sub(self, p: Point3f) -> Vector3f {
         Vector3f {
             x: self.x - p.x,
             y: self.y - p.y,
             z: self.z - p.z,
         }
     }
+}
 
-    pub fn mul(self, k: f32) -> Point3f
-        ensures { result ≡ point_scaled self k }
-    {
+impl Mul<f32> for Point3f {
+    type Output = Point3f;
+
+    ghost mul_gives = { λ p k r. r ≡ point_scaled p k };
+
+    fn mul(self, k: f32) -> Point3f {
         Point3f {
             x: self.x * k,
             y: self.y * k,
             z: self.z * k,
         }
     }
+}
 
-    // One reciprocal, and three products.
-    pub fn div(self, k: f32) -> DividedPoint
+impl Point3f {
+    // One reciprocal, and three products. There is none for a zero: there the Rust panics.
+    pub fn div(self, k: f32) -> Option<Point3f>
         ensures { result ≡ point_divided self k }
     {
         if k == 0.0 {
-            DividedPoint::ByZero
+            None
         } else {
             let d = 1.0 / k;
-            DividedPoint::Point(Point3f {
+            Some(Point3f {
                 x: self.x * d,
                 y: self.y * d,
                 z: self.z * d,
@@ -126,13 +141,6 @@ impl Point3f {
             y: float::max(self.y, p.y),
             z: float::max(self.z, p.z),
         }
-    }
-
-    // In each coordinate: -0 equals 0, and a NaN equals nothing.
-    pub fn eq(self, p: Point3f) -> bool
-        ensures { result ≡ points_equal self p }
-    {
-        (self.x == p.x) & (self.y == p.y) & (self.z == p.z)
     }
 
     // The Rust's `lerp` at two points: from `x` at 0 to `y` at 1.

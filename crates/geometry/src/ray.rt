@@ -1,11 +1,13 @@
 // Rays: core/geometry/ray.rs, without its medium and its differentials.
+#![tactic(auto, unfolding(crate::specs::Ray::ray_from, crate::specs::Ray::flat_ray, crate::specs::Ray::point_at))]
+
 ghost use Rattle.std.specs.Prelude.{◌≡◌, ◌+◌, ◌≤◌, length};
 ghost use Rattle.geometry.specs.Ray.{ray_floats, ray_from, flat_ray, point_at};
 
 use crate::point::{Point3f, point_from};
 use crate::vector::{Vector3f, vector_from};
 
-#[derive(Clone, Copy)]
+#[derive(Clone, Copy, Debug, PartialEq)]
 pub struct Ray {
     pub o: Point3f,
     pub d: Vector3f,
@@ -42,7 +44,6 @@ impl Ray {
     pub fn find_point(self, t: f32) -> Point3f
         ensures { result ≡ point_at self t }
     {
-        let step = self.d.mul(t);
-        self.o.add_vector(step)
+        self.o + self.d * t
     }
 }

@@ -1,23 +1,31 @@
 // Vectors: core/geometry/vector.rs.
-ghost use Rattle.std.specs.Prelude.{◌≡◌, ◌+◌, ◌≤◌, length};
-ghost use Rattle.geometry.specs.Vector.{vector_from, negated2, dot2, length_squared2, negated, scaled, divided, dot_of, absolute, length_squared, length_of, normalized, minor_of, vector_of, cross_of, crossed_of, axes_of, coordinate_system};
+#![tactic(auto, unfolding(crate::specs::Vector::vector_from, crate::specs::Vector::negated2, crate::specs::Vector::dot2, crate::specs::Vector::length_squared2, crate::specs::Vector::negated, crate::specs::Vector::scaled, crate::specs::Vector::divided, crate::specs::Vector::dot_of, crate::specs::Vector::absolute, crate::specs::Vector::length_squared, crate::specs::Vector::length_of, crate::specs::Vector::normalized, crate::specs::Vector::minor_of, crate::specs::Vector::cross_of, crate::specs::Vector::crossed_of, crate::specs::Vector::axes_of, crate::specs::Vector::coordinate_system))]
 
-#[derive(Clone, Copy)]
+ghost use Rattle.std.specs.Prelude.{◌≡◌, ◌+◌, ◌≤◌, length};
+ghost use Rattle.geometry.specs.Vector.{vector_from, negated2, dot2, length_squared2, negated, scaled, divided, dot_of, absolute, length_squared, length_of, normalized, minor_of, vector_of, cross_of, crossed_of, coordinate_system};
+
+use std::ops::{Mul, Neg};
+
+#[derive(Clone, Copy, Debug, PartialEq)]
 pub struct Vector2f {
     pub x: f32,
     pub y: f32,
 }
 
-impl Vector2f {
-    pub fn neg(self) -> Vector2f
-        ensures { result ≡ negated2 self }
-    {
+impl Neg for Vector2f {
+    type Output = Vector2f;
+
+    ghost neg_gives = { λ v r. r ≡ negated2 v };
+
+    fn neg(self) -> Vector2f {
         Vector2f {
             x: -self.x,
             y: -self.y,
         }
     }
+}
 
+impl Vector2f {
     pub fn dot(self, v: Vector2f) -> f32
         ensures { result ≡ dot2 self v }
     {
@@ -31,7 +39,7 @@ impl Vector2f {
     }
 }
 
-#[derive(Clone, Copy)]
+#[derive(Clone, Copy, Debug, PartialEq)]
 pub struct Vector3f {
     pub x: f32,
     pub y: f32,
@@ -50,43 +58,44 @@ pub fn vector_from(s: &[f32], at: usize) -> Vector3f
     }
 }
 
-// A vector divided by a number, or that the number is zero: there the Rust panics.
-#[derive(Clone, Copy)]
-pub enum Divided {
-    Vector(Vector3f),
-    ByZero,
-}
+impl Neg for Vector3f {
+    type Output = Vector3f;
 
-impl Vector3f {
-    pub fn neg(self) -> Vector3f
-        ensures { result ≡ negated self }
-    {
+    ghost neg_gives = { λ v r. r ≡ negated v };
+
+    fn neg(self) -> Vector3f {
         Vector3f {
             x: -self.x,
             y: -self.y,
             z: -self.z,
         }
     }
+}
 
-    pub fn mul(self, k: f32) -> Vector3f
-        ensures { result ≡ scaled self k }
-    {
+impl Mul<f32> for Vector3f {
+    type Output = Vector3f;
+
+    ghost mul_gives = { λ v k r. r ≡ scaled v k };
+
+    fn mul(self, k: f32) -> Vector3f {
         Vector3f {
             x: self.x * k,
             y: self.y * k,
             z: self.z * k,
         }
     }
+}
 
-    // One reciprocal, and three products.
-    pub fn div(self, k: f32) -> Divided
+impl Vector3f {
+    // One reciprocal, and three products. There is none for a zero: there the Rust panics.
+    pub fn div(self, k: f32) -> Option<Vector3f>
         ensures { result ≡ divided self k }
     {
         if k == 0.0 {
-            Divided::ByZero
+            None
         } else {
             let d = 1.0 / k;
-            Divided::Vector(Vector3f {
+            Some(Vector3f {
                 x: self.x * d,
                 y: self.y * d,
                 z: self.z * d,
@@ -122,7 +131,7 @@ impl Vector3f {
         float::sqrt(self.length_squared())
     }
 
-    pub fn normalize(self) -> Divided
+    pub fn normalize(self) -> Option<Vector3f>
         ensures { result ≡ normalized self }
     {
         self.div(self.length())
@@ -197,47 +206,27 @@ fn minor(a: f32, b: f32, c: f32, d: f32) -> f32
     float::narrow(p - q)
 }
 
-// The second and the third axis beside a first one, or that the second has length zero: there the
+// The second and the third axis beside a first one. There are none where the second has length zero: there the
 // Rust panics.
-#[derive(Clone, Copy)]
-pub enum CoordinateSystem {
-    Axes(Vector3f, Vector3f),
-    ZeroLength,
-}
-
-fn axes(v1: Vector3f, v2: Divided) -> CoordinateSystem
-    ensures { result ≡ axes_of v1 v2 }
-{
-    match v2 {
-        Divided::Vector(v2) => {
-            let crossed = cross_parts(v1.x, v1.y, v1.z, v2.x, v2.y, v2.z);
-            let v3 = crossed.v;
-            CoordinateSystem::Axes(v2, v3)
-        }
-        Divided::ByZero => CoordinateSystem::ZeroLength,
-    }
-}
-
-pub fn vec3_coordinate_system(v1: Vector3f) -> CoordinateSystem
+pub fn vec3_coordinate_system(v1: Vector3f) -> Option<(Vector3f, Vector3f)>
     ensures { result ≡ coordinate_system v1 }
 {
     let x = float::abs(v1.x);
     let y = float::abs(v1.y);
-    if x > y {
+    let v2 = if x > y {
         let v2 = Vector3f {
             x: -v1.z,
             y: 0.0,
             z: v1.x,
         };
-        let length = float::sqrt(v1.x * v1.x + v1.z * v1.z);
-        axes(v1, v2.div(length))
+        v2.div(float::sqrt(v1.x * v1.x + v1.z * v1.z))?
     } else {
         let v2 = Vector3f {
             x: 0.0,
             y: v1.z,
             z: -v1.y,
         };
-        let length = float::sqrt(v1.y * v1.y + v1.z * v1.z);
-        axes(v1, v2.div(length))
-    }
+        v2.div(float::sqrt(v1.y * v1.y + v1.z * v1.z))?
+    };
+    Some((v2, v1.cross(v2)))
 }
