@@ -1,37 +1,33 @@
 -- Boxes under a matrix: transform_bounds of src/core/transform.rs. Definitions only.
-use Rattle.std.specs.Prelude.{Float}
+use Rattle.std.specs.Prelude.{Option, None, Some, Float}
 use Rattle.geometry.specs.declared.bounds.Bounds3f.{Bounds3f}
 use Rattle.geometry.specs.declared.point.Point3f.{Point3f}
 use Rattle.geometry.specs.Bounds.{bounds_at, with_point}
 use Rattle.matrix.specs.declared.Matrix4x4.{Matrix4x4}
 use Rattle.transform.specs.Point.{transform_point}
-use Rattle.transform.specs.declared.point.TransformedPoint.{TransformedPoint}
-use Rattle.transform.specs.declared.point.TransformedPoint.TheVariants as transformed
-use Rattle.transform.specs.declared.bounds.TransformedBounds.{TransformedBounds}
-use Rattle.transform.specs.declared.bounds.TransformedBounds.TheVariants.{Bounds, ZeroWeight}
 
 -- Bounds3f::from_point(self.transform_point(p))
-abbrev pub started : TransformedPoint → TransformedBounds
-started (transformed.Point p) = Bounds (bounds_at p)
-started transformed.ZeroWeight = ZeroWeight
+abbrev pub started : Option Point3f → Option Bounds3f
+started (Some p) = Some (bounds_at p)
+started None = None
 
-unfoldable pub starting_at : Matrix4x4 → Point3f → TransformedBounds
+unfoldable pub starting_at : Matrix4x4 → Point3f → Option Bounds3f
 starting_at m p = started (transform_point m p)
 
 -- ret.union_point(self.transform_point(p))
-abbrev pub joined : TransformedBounds → TransformedPoint → TransformedBounds
-joined (Bounds b) (transformed.Point p) = Bounds (with_point b p)
-joined (Bounds b) transformed.ZeroWeight = ZeroWeight
-joined ZeroWeight p = ZeroWeight
+abbrev pub joined : Option Bounds3f → Option Point3f → Option Bounds3f
+joined (Some b) (Some p) = Some (with_point b p)
+joined (Some b) None = None
+joined None p = None
 
-unfoldable pub including : Matrix4x4 → TransformedBounds → Point3f → TransformedBounds
+unfoldable pub including : Matrix4x4 → Option Bounds3f → Point3f → Option Bounds3f
 including m b p = joined b (transform_point m p)
 
 unfoldable pub point_of : Float → Float → Float → Point3f
 point_of x y z = record { x = x; y = y; z = z }
 
 -- transform_bounds: the corners in the order of the Rust
-unfoldable pub transform_bounds : Matrix4x4 → Bounds3f → TransformedBounds
+unfoldable pub transform_bounds : Matrix4x4 → Bounds3f → Option Bounds3f
 transform_bounds m b =
     let low = b.p_min in
     let high = b.p_max in

@@ -1,8 +1,10 @@
 // The transform to a camera's frame.
-ghost use Rattle.std.specs.Prelude.{◌≡◌};
-ghost use Rattle.transform.specs.LookAt.{identity_transform, camera_to_world, framed, upward, look_at};
+#![tactic(auto, unfolding(crate::specs::LookAt::identity_transform, crate::specs::LookAt::camera_to_world, crate::specs::LookAt::framed, crate::specs::LookAt::upward, crate::specs::LookAt::look_at))]
 
-use geometry::{Divided, Point3f, Vector3f};
+ghost use Rattle.std.specs.Prelude.{◌≡◌};
+ghost use Rattle.transform.specs.LookAt.{identity_transform, camera_to_world, framed, look_at};
+
+use geometry::{Point3f, Vector3f};
 use matrix::{Matrix4x4, Row};
 
 #[derive(Clone, Copy)]
@@ -11,19 +13,11 @@ pub struct Transform {
     pub m_inv: Matrix4x4,
 }
 
-// A transform, or that the viewing direction or the up vector has length zero: there the Rust
-// panics.
-#[derive(Clone, Copy)]
-pub enum LookAt {
-    Transform(Transform),
-    ZeroLength,
-}
+// The identity.
+impl Default for Transform {
+    ghost is_default = { λ t. t ≡ identity_transform };
 
-impl Transform {
-    // The identity.
-    pub fn default() -> Transform
-        ensures { result ≡ identity_transform }
-    {
+    fn default() -> Transform {
         let m = Matrix4x4::default();
         Transform { m, m_inv: m }
     }
@@ -60,6 +54,7 @@ fn camera_to_world(pos: Point3f, right: Vector3f, new_up: Vector3f, dir: Vector3
 }
 
 // The frame at pos along dir, for an up vector of length one.
+#[tactic(auto, unfolding(crate::specs::LookAt::framed, geometry::specs::Vector::normalized, geometry::specs::Vector::divided, geometry::specs::Vector::length_of, geometry::specs::Vector::crossed_of))]
 fn frame(pos: Point3f, dir: Vector3f, up: Vector3f) -> Transform
     ensures { result ≡ framed pos dir up }
 {
@@ -69,27 +64,18 @@ fn frame(pos: Point3f, dir: Vector3f, up: Vector3f) -> Transform
         return Transform::default();
     }
     let across = crossed.v;
-    let right = across.mul(1.0 / length);
+    let right = across * (1.0 / length);
     let new_up = dir.cross(right);
     let m_inv = camera_to_world(pos, right, new_up, dir);
     let m = m_inv.inverse();
     Transform { m, m_inv }
 }
 
-fn frame_up(pos: Point3f, dir: Vector3f, up: Vector3f) -> LookAt
-    ensures { result ≡ upward pos dir up }
-{
-    match up.normalize() {
-        Divided::Vector(up) => LookAt::Transform(frame(pos, dir, up)),
-        Divided::ByZero => LookAt::ZeroLength,
-    }
-}
-
-pub fn look_at(pos: Point3f, look: Point3f, up: Vector3f) -> LookAt
+// There is none where the viewing direction or the up vector has length zero: there the Rust panics.
+pub fn look_at(pos: Point3f, look: Point3f, up: Vector3f) -> Option<Transform>
     ensures { result ≡ look_at pos look up }
 {
-    match look.sub(pos).normalize() {
-        Divided::Vector(dir) => frame_up(pos, dir, up),
-        Divided::ByZero => LookAt::ZeroLength,
-    }
+    let dir = (look - pos).normalize()?;
+    let up = up.normalize()?;
+    Some(frame(pos, dir, up))
 }

@@ -1,32 +1,22 @@
 // Points, with and without the bound on their error.
+#![tactic(auto, unfolding(crate::specs::Point::projected, crate::specs::Point::transform_point, crate::specs::Point::point_error, crate::specs::Point::transform_point_error))]
+
 ghost use Rattle.std.specs.Prelude.{◌≡◌};
 ghost use Rattle.transform.specs.Point.{projected, transform_point, point_error, transform_point_error};
 
 use crate::row::{row_point, row_point_abs};
-use geometry::{DividedPoint, Point3f, Vector3f};
+use geometry::{Point3f, Vector3f};
 use matrix::Matrix4x4;
 
-// A point, or that its weight is zero: there the Rust panics.
-#[derive(Clone, Copy)]
-pub enum TransformedPoint {
-    Point(Point3f),
-    ZeroWeight,
-}
-
-// The point of the weight w. The weight 1.0 divides nothing.
-fn project(p: Point3f, w: f32) -> TransformedPoint
+// The point of the weight w. The weight 1.0 divides nothing, and a zero divides no point.
+fn project(p: Point3f, w: f32) -> Option<Point3f>
     ensures { result ≡ projected p w }
 {
-    if w == 1.0 {
-        return TransformedPoint::Point(p);
-    }
-    match p.div(w) {
-        DividedPoint::Point(q) => TransformedPoint::Point(q),
-        DividedPoint::ByZero => TransformedPoint::ZeroWeight,
-    }
+    if w == 1.0 { Some(p) } else { p.div(w) }
 }
 
-pub fn transform_point(m: Matrix4x4, p: Point3f) -> TransformedPoint
+// There is none where the point's weight is zero: there the Rust panics.
+pub fn transform_point(m: Matrix4x4, p: Point3f) -> Option<Point3f>
     ensures { result ≡ transform_point m p }
 {
     let xp = row_point(m.r0, p);
@@ -41,13 +31,6 @@ pub fn transform_point(m: Matrix4x4, p: Point3f) -> TransformedPoint
     project(q, wp)
 }
 
-// A point with the bound on its error, or that its weight is zero.
-#[derive(Clone, Copy)]
-pub enum PointWithError {
-    Point(Point3f, Vector3f),
-    ZeroWeight,
-}
-
 fn point_error(m: Matrix4x4, p: Point3f) -> Vector3f
     ensures { result ≡ point_error m p }
 {
@@ -59,14 +42,13 @@ fn point_error(m: Matrix4x4, p: Point3f) -> Vector3f
         y: y_abs_sum,
         z: z_abs_sum,
     };
-    sum.mul(geometry::gamma(3))
+    sum * geometry::gamma(3)
 }
 
-pub fn transform_point_error(m: Matrix4x4, p: Point3f) -> PointWithError
+// A point with the bound on its error.
+pub fn transform_point_error(m: Matrix4x4, p: Point3f) -> Option<(Point3f, Vector3f)>
     ensures { result ≡ transform_point_error m p }
 {
-    match transform_point(m, p) {
-        TransformedPoint::Point(q) => PointWithError::Point(q, point_error(m, p)),
-        TransformedPoint::ZeroWeight => PointWithError::ZeroWeight,
-    }
+    let q = transform_point(m, p)?;
+    Some((q, point_error(m, p)))
 }

@@ -1,4 +1,6 @@
 // A row of a matrix times a point or a vector.
+#![tactic(auto, unfolding(crate::specs::Row::row_point, crate::specs::Row::row_vector, crate::specs::Row::row_point_abs, crate::specs::Row::row_vector_abs))]
+
 ghost use Rattle.std.specs.Prelude.{◌≡◌};
 ghost use Rattle.transform.specs.Row.{row_point, row_vector, row_point_abs, row_vector_abs};
 

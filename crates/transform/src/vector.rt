@@ -1,4 +1,6 @@
 // Vectors, with and without the bound on their error.
+#![tactic(auto, unfolding(crate::specs::Vector::transform_vector, crate::specs::Vector::vector_error, crate::specs::Vector::transform_vector_error))]
+
 ghost use Rattle.std.specs.Prelude.{◌≡◌};
 ghost use Rattle.transform.specs.Vector.{transform_vector, vector_error, transform_vector_error};
 
@@ -16,7 +18,7 @@ pub fn transform_vector(m: Matrix4x4, v: Vector3f) -> Vector3f
     }
 }
 
-#[derive(Clone, Copy)]
+#[derive(Clone, Copy, Debug, PartialEq)]
 pub struct VectorWithError {
     pub v: Vector3f,
     pub error: Vector3f,
