@@ -6,4 +6,4 @@ mod fixed;
 mod frame;
 
 pub use fixed::{FIXED, direction_in, inverse_in, matrix_in, ray_length_in, view_floats, zmax_in};
-pub use frame::{Aim, Aimed, Framed, View, aim_ray, frame_aimed};
+pub use frame::{Aim, Framed, View, aim_ray, frame_aimed};
