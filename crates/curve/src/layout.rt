@@ -1,23 +1,25 @@
 // The layout of a curve's record: which of its floats is what, and how many there are. Everything else goes by these
 // names (specs/Layout has them for the definitions).
-ghost use Rattle.std.specs.Prelude.{◌≡◌, ◌≤◌, length};
-ghost use Rattle.bezier.specs.Points.{cubic_in};
-ghost use Rattle.curve.specs.Layout.{floats, axis_from, cubic_from, curve_from, curve_floats};
+ghost use Rattle.std.specs.Prelude.{◌≡◌, ◌≤◌};
+ghost use Rattle.curve.specs.Layout.{axis_from, cubic_from, curve_from, curve_floats};
+ghost use Rattle.curve.specs.Curve.{coordinate_of};
 
-use crate::curve::Curve;
-use bezier::{Axis, Cubic, POINTS, points_by};
-use geometry::point_from;
+use crate::curve::{Curve, is_in_limits};
+use bezier::{Axis, Cubic, POINTS, part, points_by};
+use geometry::{lerp, point_from};
+use limits::Refusal;
+use std::marker::Model;
 
 pub const FLOATS: usize = 16;
 
 // The segment's control points, three floats each.
-const P0: usize = 0;
+pub const P0: usize = 0;
 
-const P1: usize = 3;
+pub const P1: usize = 3;
 
-const P2: usize = 6;
+pub const P2: usize = 6;
 
-const P3: usize = 9;
+pub const P3: usize = 9;
 
 // The widths at the segment's ends.
 pub const WIDTH0: usize = 12;
@@ -29,55 +31,52 @@ pub const UMIN: usize = 14;
 
 pub const UMAX: usize = 15;
 
-// The readers ask that a record is there: they are for slices whose length was tested. This one reads a coordinate of
-// the control points: 0 is x, 1 is y, 2 is z, and 3 is what comes behind each point, for the place that nothing asks for.
-pub fn axis_from(s: &[f32], k: usize) -> Axis
-    requires { (floats ≤ length s.now) × (k ≤ 3) }
-    ensures { result ≡ axis_from s.now k }
+// A coordinate of the segment's control points: 0 is x, 1 is y, 2 is z, and 3 is what comes behind each point, for the
+// place that nothing asks for.
+#[tactic(auto, unfolding(crate::specs::Layout::axis_from))]
+fn axis_in(floats: &[f32; FLOATS], k: usize) -> Axis
+    requires { k ≤ 3 }
+    ensures { result ≡ axis_from floats.now k }
 {
     Axis {
-        p0: s[P0 + k],
-        p1: s[P1 + k],
-        p2: s[P2 + k],
-        p3: s[P3 + k],
+        p0: floats[P0 + k],
+        p1: floats[P1 + k],
+        p2: floats[P2 + k],
+        p3: floats[P3 + k],
     }
 }
 
-fn cubic_from(s: &[f32]) -> Cubic
-    requires { floats ≤ length s.now }
-    ensures { result ≡ cubic_from s.now }
+// The same of the part from umin to umax.
+#[tactic(auto, unfolding(crate::specs::Curve::coordinate_of))]
+fn part_in(floats: &[f32; FLOATS], k: usize) -> Axis
+    requires { k ≤ 3 }
+    ensures { result ≡ coordinate_of floats.now k }
+{
+    part(axis_in(floats, k), floats[UMIN], floats[UMAX])
+}
+
+#[tactic(auto, unfolding(crate::specs::Layout::cubic_from))]
+fn cubic_in(floats: &[f32; FLOATS]) -> Cubic
+    ensures { result ≡ cubic_from floats.now }
 {
     Cubic {
-        p0: point_from(s, P0),
-        p1: point_from(s, P1),
-        p2: point_from(s, P2),
-        p3: point_from(s, P3),
+        p0: point_from(floats, P0),
+        p1: point_from(floats, P1),
+        p2: point_from(floats, P2),
+        p3: point_from(floats, P3),
     }
 }
 
-// The segment's control points, as floats that are lent.
-pub fn points_from(s: &[f32]) -> [f32; POINTS]
-    requires { floats ≤ length s.now }
-    ensures { cubic_in result ≡ cubic_from s.now }
-{
-    points_by(
-        axis_from(s, 0),
-        axis_from(s, 1),
-        axis_from(s, 2),
-        axis_from(s, 3),
-    )
-}
-
-pub fn curve_from(s: &[f32]) -> Curve
-    requires { floats ≤ length s.now }
-    ensures { result ≡ curve_from s.now }
+#[tactic(auto, unfolding(crate::specs::Layout::curve_from))]
+fn curve_in(floats: &[f32; FLOATS]) -> Curve
+    ensures { result ≡ curve_from floats.now }
 {
     Curve {
-        cp: cubic_from(s),
-        width0: s[WIDTH0],
-        width1: s[WIDTH1],
-        umin: s[UMIN],
-        umax: s[UMAX],
+        cp: cubic_in(floats),
+        width0: floats[WIDTH0],
+        width1: floats[WIDTH1],
+        umin: floats[UMIN],
+        umax: floats[UMAX],
     }
 }
 
@@ -90,4 +89,125 @@ pub fn curve_floats(c: Curve) -> [f32; FLOATS]
             .p2
             .z, c.cp.p3.x, c.cp.p3.y, c.cp.p3.z, c.width0, c.width1, c.umin, c.umax,
     ]
+}
+
+impl From<Curve> for [f32; FLOATS] {
+    ghost from_gives = { λ c a. a ≡ curve_floats c };
+
+    fn from(c: Curve) -> [f32; FLOATS] {
+        curve_floats(c)
+    }
+}
+
+/// A curve's record where it lies, which a walk lends to every step: to read the floats into a `Curve` costs a box and a
+/// beam that is thrown out 3 to 8 % more. A clause sees the `Curve` that they are.
+pub struct CurveRef<'a> {
+    floats: &'a [f32; FLOATS],
+}
+
+impl<'a> Model for CurveRef<'a> {
+    ghost use Rattle.curve.specs.declared.curve.Curve.{Curve};
+    ghost use Rattle.curve.specs.Layout.{curve_from};
+
+    ghost Value = { Curve };
+
+    ghost view = { λ r. curve_from r.floats.now };
+}
+
+#[tactic(auto, unfolding(crate::specs::Layout::curve_from, crate::specs::Curve::width_at))]
+impl CurveRef<'_> {
+    ghost use Rattle.bezier.specs.Points.{cubic_in};
+    ghost use Rattle.curve.specs.Curve.{control_points, width_at};
+
+    pub fn umin(&self) -> f32
+        ensures { result ≡ self.now.umin }
+    {
+        self.floats[UMIN]
+    }
+
+    pub fn umax(&self) -> f32
+        ensures { result ≡ self.now.umax }
+    {
+        self.floats[UMAX]
+    }
+
+    pub fn width0(&self) -> f32
+        ensures { result ≡ self.now.width0 }
+    {
+        self.floats[WIDTH0]
+    }
+
+    pub fn width1(&self) -> f32
+        ensures { result ≡ self.now.width1 }
+    {
+        self.floats[WIDTH1]
+    }
+
+    pub fn width_at(&self, u: f32) -> f32
+        ensures { result ≡ width_at self.now u }
+    {
+        lerp(u, self.floats[WIDTH0], self.floats[WIDTH1])
+    }
+
+    /// The segment's control points, as floats that are lent.
+    #[tactic(auto, using(crate::proofs::Records::segment_by_axes), unfolding(crate::specs::Layout::curve_from))]
+    pub fn segment_points(&self) -> [f32; POINTS]
+        ensures { cubic_in result ≡ self.now.cp }
+    {
+        let floats = self.floats;
+        points_by(
+            axis_in(floats, 0),
+            axis_in(floats, 1),
+            axis_in(floats, 2),
+            axis_in(floats, 3),
+        )
+    }
+
+    /// Those of the part from umin to umax, in the same form: the Rust's cpobj.
+    #[tactic(auto, using(crate::proofs::Records::curve_by_axes))]
+    pub fn control_points(&self) -> [f32; POINTS]
+        ensures { cubic_in result ≡ control_points self.now }
+    {
+        let floats = self.floats;
+        points_by(
+            part_in(floats, 0),
+            part_in(floats, 1),
+            part_in(floats, 2),
+            part_in(floats, 3),
+        )
+    }
+}
+
+/// Any sixteen floats, also such that are no curve within the limits.
+impl<'a> From<&'a [f32; FLOATS]> for CurveRef<'a> {
+    ghost from_gives = { λ a c. c ≡ curve_from a.now };
+
+    fn from(floats: &'a [f32; FLOATS]) -> CurveRef<'a> {
+        CurveRef { floats }
+    }
+}
+
+/// The record within the limits that a slice is, or refusal 9.
+#[tactic(auto, unfolding(crate::specs::Curve::lent_refusals, crate::specs::Curve::is_curve, limits::specs::Refused::first_of))]
+impl<'a> TryFrom<&'a [f32]> for CurveRef<'a> {
+    ghost use Rattle.std.specs.Prelude.{Ok};
+    ghost use Rattle.limits.specs.Refused.{first_of, told};
+    ghost use Rattle.curve.specs.Curve.{lent_refusals};
+
+    type Error = Refusal;
+
+    ghost try_from_gives = { λ s r. r ≡ told (first_of (lent_refusals s.now)) (Ok (curve_from s.now)) };
+
+    fn try_from(floats: &'a [f32]) -> Result<CurveRef<'a>, Refusal> {
+        match <&[f32; FLOATS]>::try_from(floats) {
+            Ok(floats) => {
+                if is_in_limits(curve_in(floats)) {
+                    Ok(CurveRef { floats })
+                } else {
+                    Err(Refusal::Curve)
+                }
+            }
+            Err(_) => Err(Refusal::Curve),
+        }
+    }
 }

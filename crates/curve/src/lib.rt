@@ -4,6 +4,8 @@
 
 mod curve;
 mod layout;
+mod slices;
 
-pub use curve::{Curve, control_points, is_curve, width_at};
-pub use layout::{FLOATS, UMAX, UMIN, WIDTH0, WIDTH1, curve_floats, points_from};
+pub use curve::{Curve, is_curve};
+pub use layout::{CurveRef, FLOATS, UMAX, UMIN, WIDTH0, WIDTH1, curve_floats};
+pub use slices::{control_points, points_from, width_at};

@@ -1,8 +1,8 @@
--- `curve::layout::points_from` meets its contract: each return rewrites by the facts on its way. Assumes nothing.
+-- `curve::slices::points_from` meets its contract: each return rewrites by the facts on its way. Assumes nothing.
 use borrow.Author.Rules.{rules}
 use Rattle.curve.proofs.Records.{segment_by_axes}
-use Rattle.curve.proofs.layout.points_from.Statement.{statement}
-use Rattle.curve.proofs.layout.points_from.Tie as tie
+use Rattle.curve.proofs.slices.points_from.Statement.{statement}
+use Rattle.curve.proofs.slices.points_from.Tie as tie
 
 returns : tie.Need-returns
 returns c = rw (c.points_by.ensures, c.before.before.axis_from-3.ensures, c.before.before.before.axis_from-2.ensures, c.before.before.before.before.axis_from.ensures) (segment_by_axes _)

@@ -1,8 +1,8 @@
--- `curve::layout::cubic_from` meets its contract: each return rewrites by the facts on its way. Assumes nothing.
+-- `curve::slices::cubic_from` meets its contract: each return rewrites by the facts on its way. Assumes nothing.
 use borrow.Author.Rules.{rules}
 use Rattle.curve.specs.Layout.{cubic_from}
-use Rattle.curve.proofs.layout.cubic_from.Statement.{statement}
-use Rattle.curve.proofs.layout.cubic_from.Tie as tie
+use Rattle.curve.proofs.slices.cubic_from.Statement.{statement}
+use Rattle.curve.proofs.slices.cubic_from.Tie as tie
 
 returns : tie.Need-returns
 unfolding cubic_from

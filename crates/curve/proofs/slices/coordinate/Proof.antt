@@ -1,8 +1,8 @@
--- `curve::curve::coordinate` meets its contract: each return rewrites by the facts on its way. Assumes nothing.
+-- `curve::slices::coordinate` meets its contract: each return rewrites by the facts on its way. Assumes nothing.
 use borrow.Author.Rules.{rules}
 use Rattle.curve.specs.Curve.{coordinate_of}
-use Rattle.curve.proofs.curve.coordinate.Statement.{statement}
-use Rattle.curve.proofs.curve.coordinate.Tie as tie
+use Rattle.curve.proofs.slices.coordinate.Statement.{statement}
+use Rattle.curve.proofs.slices.coordinate.Tie as tie
 
 returns : tie.Need-returns
 unfolding coordinate_of

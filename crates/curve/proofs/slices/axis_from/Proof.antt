@@ -1,9 +1,9 @@
--- `curve::layout::axis_from` meets its contract: each return rewrites by the facts on its way. Assumes nothing.
+-- `curve::slices::axis_from` meets its contract: each return rewrites by the facts on its way. Assumes nothing.
 use mathlib.Core.Path.{refl}
 use borrow.Author.Rules.{rules}
 use Rattle.curve.specs.Layout.{axis_from}
-use Rattle.curve.proofs.layout.axis_from.Statement.{statement}
-use Rattle.curve.proofs.layout.axis_from.Tie as tie
+use Rattle.curve.proofs.slices.axis_from.Statement.{statement}
+use Rattle.curve.proofs.slices.axis_from.Tie as tie
 
 returns : tie.Need-returns
 unfolding axis_from

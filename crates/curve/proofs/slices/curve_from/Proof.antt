@@ -1,8 +1,8 @@
--- `curve::layout::curve_from` meets its contract: each return rewrites by the facts on its way. Assumes nothing.
+-- `curve::slices::curve_from` meets its contract: each return rewrites by the facts on its way. Assumes nothing.
 use borrow.Author.Rules.{rules}
 use Rattle.curve.specs.Layout.{curve_from}
-use Rattle.curve.proofs.layout.curve_from.Statement.{statement}
-use Rattle.curve.proofs.layout.curve_from.Tie as tie
+use Rattle.curve.proofs.slices.curve_from.Statement.{statement}
+use Rattle.curve.proofs.slices.curve_from.Tie as tie
 
 returns : tie.Need-returns
 unfolding curve_from
