@@ -8,7 +8,7 @@ ghost use Rattle.beltbeam.specs.Beltbeam.{Prints};
 
 use printer::print_sheet;
 use std::io::{Read, Write};
-use transfer::{Stand, fail};
+use transfer::{Stop, tell};
 
 // So much is read off behind a sheet that is too long, so that whoever writes it into a pipe can finish.
 const READ_OFF: usize = 1048576;
@@ -21,21 +21,15 @@ fn run<R: Read, W: Write, E: Write>(input: &mut R, out: &mut W, err: &mut E)
     let mut bytes = [0u8; 65537];
     let t = transfer::read(input, &mut bytes);
     let n = t.done;
-    match t.stand {
-        Stand::Nothing => {
-            print_sheet(out, err, &bytes[..n]);
-        }
-        Stand::Open => {
+    match t.outcome {
+        Ok(()) => {
             print_sheet(out, err, &bytes[..n]);
             transfer::skip(input, &mut bytes, READ_OFF);
         }
-        Stand::Interrupted => {
-            transfer::write(
-                err,
-                b"the sheet is not read, 100 reads in a row were interrupted\n",
-            );
+        Err(Stop::Nothing) => {
+            print_sheet(out, err, &bytes[..n]);
         }
-        Stand::Failed(error) => fail(err, b"the sheet is not read, a read failed", error),
+        Err(stop) => tell(err, "the sheet is not read", "read", stop),
     }
 }
 

@@ -1,15 +1,12 @@
 -- A report that is handed over block by block: what was written, and what is left. Assumes nothing.
-use Rattle.std.proofs.Common.{◌≡◌, ℕ, ◌+◌, ◌-◌, ◌*◌, ◌≤◌, ◌<◌, true, false, not, List, ◌++◌, length, take, drop, eqb, sym, ap, ◌∙◌, arith, length-append, length-drop, refl, drop-drop}
-use Rattle.std.proofs.Math.Seq.{drop-append_seam}
-use Rattle.std.specs.Prelude.{Float, Option}
+use Rattle.std.proofs.Common.{◌≡◌, ℕ, ◌+◌, ◌-◌, ◌*◌, ◌≤◌, ◌<◌, true, false, not, List, ◌++◌, length, take, drop, eqb, sym, ap, ◌∙◌, arith, length-append, length-drop, refl, subst, drop-drop}
+use Rattle.std.specs.Prelude.{Float, Option, Ok, is_ok}
 use Rattle.std.specs.Io.KnownBytes.{Appends}
-use Rattle.std.proofs.Math.Seq.{length-take-le}
+use Rattle.std.proofs.Math.Seq.{drop-append_seam, length-take-le, take-add}
 use Rattle.std.proofs.lemmas.List.{take-append-le}
 use mathlib.Core.Bool.{and-eq-true_iff}
 use borrow.Author.Tests.{not-true, not-false, eqb-true, eqb-false}
-use Rattle.transfer.specs.Transfer.{is_open}
-use Rattle.transfer.specs.declared.Stand.TheVariants.{Open}
-use Rattle.transfer.proofs.Bytes.{appends_more}
+use Rattle.std.proofs.KnownBytes.{Appends-trans}
 use Rattle.blocks.specs.Blocks.{line_count, lines_text, Sound, lines_left, rest_of, IsBlock}
 use Rattle.blocks.specs.declared.Block.{Block}
 use Rattle.blocks.specs.declared.Rest.{Rest}
@@ -22,21 +19,21 @@ pub record Handed (list : List Float) (first left : Rest) (p : Printed) : Type 0
   pub sound : Sound left
   pub small : p.bytes + 65536 * lines_left left ≤ 65536 * 65537
   pub at_most : p.bytes + length (rest_of list left) ≤ length (rest_of list first)
-  pub behind : is_open p.stand ≡ true → drop p.bytes (rest_of list first) ≡ rest_of list left
+  pub behind : is_ok p.outcome ≡ true → drop p.bytes (rest_of list first) ≡ rest_of list left
 
 -- what a test says
 module _ (p : Printed) (left : Rest) where
-  pub going : goes_on p left ≡ true → (is_open p.stand ≡ true) × (0 < lines_left left)
+  pub going : goes_on p left ≡ true → (is_ok p.outcome ≡ true) × (0 < lines_left left)
   going h =
-      let both = (and-eq-true_iff (is_open p.stand) (not (eqb (lines_left left) 0))).0 h in
+      let both = (and-eq-true_iff (is_ok p.outcome) (not (eqb (lines_left left) 0))).0 h in
       let more = eqb-false (lines_left left) 0 (not-true _ both.1) in
       (both.0, omega arith)
 
-  over : goes_on p left ≡ false → is_open p.stand ≡ true → lines_left left ≡ 0
+  over : goes_on p left ≡ false → is_ok p.outcome ≡ true → lines_left left ≡ 0
   over h o = eqb-true (lines_left left) 0 (not-false _ (rw o at h))
 
 module _ (list : List Float) (first : Rest) where
-  pub none_yet : Sound first → Handed list first first (record { bytes = 0; stand = Open })
+  pub none_yet : Sound first → Handed list first first (record { bytes = 0; outcome = Ok tt })
   unfolding lines_left
   none_yet s = record { sound = s; small = omega (arith, lines_few first.reply s.0); at_most = omega arith; behind = λ _. refl }
 
@@ -64,7 +61,10 @@ module _ (list : List Float) (first : Rest) where
       let few : q.bytes - p.bytes ≤ length (take b.end x) = omega (arith, wrote.no_more) in
       let at : drop p.bytes (rest_of list first) ≡ take b.end x ++ rest_of list b.rest = h.behind o ∙ sym block.whole in
       let same : take (q.bytes - p.bytes) (drop p.bytes (rest_of list first)) ≡ take (q.bytes - p.bytes) (take b.end x) = ap (take (q.bytes - p.bytes)) at ∙ take-append-le (q.bytes - p.bytes) (take b.end x) (rest_of list b.rest) few in
-      appends_more was now new (rest_of list first) p.bytes q.bytes more before (rw same here)
+      let end : p.bytes + (q.bytes - p.bytes) ≡ q.bytes = omega arith in
+      let joined : take p.bytes (rest_of list first) ++ take (q.bytes - p.bytes) (take b.end x) ≡ take q.bytes (rest_of list first) =
+      ap (λ zs. take p.bytes (rest_of list first) ++ zs) (sym same) ∙ sym (take-add p.bytes (q.bytes - p.bytes) (rest_of list first)) ∙ ap (λ k. take k (rest_of list first)) end in
+      subst (λ zs. Appends was new zs) joined (Appends-trans was now new _ _ before here)
 
   -- nothing is left
   left_none : (left : Rest) → Sound left → lines_left left ≡ 0 → length (rest_of list left) ≡ 0

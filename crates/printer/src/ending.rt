@@ -1,72 +1,28 @@
 // How a line of a sheet ends.
-ghost use Rattle.std.specs.Prelude.{◌≤◌, length};
+use std::fmt;
 
-const CR: u8 = 13;
-
-const LF: u8 = 10;
-
-#[derive(Clone, Copy)]
-pub enum Ending {
-    Lf,
+// What is wrong with a line's end.
+#[derive(Clone, Copy, Debug, PartialEq, Eq)]
+pub enum WrongEnding {
     CrLf,
-    None,
-    NoLine,
+    NoLf,
 }
 
-// The place of the first LF from a place on, or the end.
-fn find_lf(s: &[u8], from: usize) -> usize
-    requires { from ≤ length s.now }
-    ensures lower_bound { from ≤ result }
-    ensures upper_bound { result ≤ length s.now }
-{
-    let mut i = from;
-    while i < s.len() {
-        if s[i] == LF {
-            return i;
-        }
-        i += 1;
+impl fmt::Display for WrongEnding {
+    fn fmt<W: fmt::Write>(&self, f: &mut fmt::Formatter<W>) -> fmt::Result {
+        f.write_str(match self {
+            WrongEnding::CrLf => "it ends in CR LF, and a line ends in LF alone",
+            WrongEnding::NoLf => "the last line has no LF at its end",
+        })
     }
-    i
 }
 
-// The place where a line starts, by its number from 1, or the end.
-fn start_of(s: &[u8], line: usize) -> usize
-    ensures { result ≤ length s.now }
-{
-    let mut at = 0usize;
-    let mut k = 1usize;
-    while (k < line) & (at < s.len()) {
-        at = behind_lf(s, at);
-        k += 1;
-    }
-    at
-}
-
-// The place behind the first LF from a place on, or the end.
-fn behind_lf(s: &[u8], from: usize) -> usize
-    requires { from ≤ length s.now }
-    ensures { result ≤ length s.now }
-{
-    let lf = find_lf(s, from);
-    if lf < s.len() { lf + 1 } else { lf }
-}
-
-pub fn ending_of(s: &[u8], line: usize) -> Ending {
-    let from = start_of(s, line);
-    let lf = find_lf(s, from);
-    if lf == s.len() {
-        if from < lf {
-            Ending::None
-        } else {
-            Ending::NoLine
-        }
-    } else if from < lf {
-        if s[lf - 1] == CR {
-            Ending::CrLf
-        } else {
-            Ending::Lf
-        }
-    } else {
-        Ending::Lf
+// What is wrong with the end of a line, by its number from 1. Of a line that is not there nothing is.
+pub fn wrong_ending_of(sheet: &[u8], line: usize) -> Option<WrongEnding> {
+    let mut lines = sheet.split_inclusive(|b| *b == b'\n');
+    match lines.nth(line.saturating_sub(1))? {
+        [.., b'\r', b'\n'] => Some(WrongEnding::CrLf),
+        [.., b'\n'] => None,
+        _ => Some(WrongEnding::NoLf),
     }
 }

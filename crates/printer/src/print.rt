@@ -5,17 +5,17 @@ ghost use Rattle.blocks.specs.Blocks.{Sound, rest_of};
 ghost use Rattle.blocks.specs.Report.{report_of};
 ghost use Rattle.printer.specs.Printed.{goes_on, Follows, Writes};
 
-use crate::explain::{explain, tell};
+use crate::explain::{explain, tell_cut};
 use blocks::{ROOM, Rest, is_done, put_block};
 use sheet::Reply;
 use std::io::Write;
-use transfer::{Stand, is_open};
+use transfer::Stop;
 
-// How many bytes of a report were written, and how the last write stands.
-#[derive(Clone, Copy)]
+// How many bytes of a report were written, and what ended it before its end, if anything did.
+#[derive(Clone, Copy, Debug)]
 pub struct Printed {
     pub bytes: usize,
-    pub stand: Stand,
+    pub outcome: Result<(), Stop>,
 }
 
 // Whether there is more to write, and no write failed.
@@ -23,8 +23,7 @@ fn goes_on(printed: Printed, left: Rest) -> bool
     requires { Sound left }
     ensures { result ≡ goes_on printed left }
 {
-    let stand = printed.stand;
-    is_open(stand) & !is_done(left)
+    printed.outcome.is_ok() && !is_done(left)
 }
 
 // The one place where the report is written.
@@ -35,10 +34,9 @@ fn write_block<W: Write>(out: &mut W, printed: Printed, block: &[u8]) -> Printed
     ensures bytes { Appends (W.contents out.old) (W.contents out.new) (take (result.bytes - printed.bytes) block.now) }
 {
     let t = transfer::write(out, block);
-    let stand = t.stand;
     Printed {
         bytes: printed.bytes + t.done,
-        stand,
+        outcome: t.outcome,
     }
 }
 
@@ -51,7 +49,7 @@ fn write_report<W: Write>(out: &mut W, buf: &mut [u8], list: &[f32; ROOM], rest:
     let mut left = rest;
     let mut printed = Printed {
         bytes: 0,
-        stand: Stand::Open,
+        outcome: Ok(()),
     };
     while goes_on(printed, left) {
         let block = put_block(buf, list, left);
@@ -80,7 +78,7 @@ pub fn print_sheet<W: Write, E: Write>(out: &mut W, err: &mut E, bytes: &[u8]) -
     let rest = blocks::open(bytes, &mut list);
     let reply = rest.reply;
     let printed = write_report(out, &mut buf, &list, rest);
-    tell(err, printed);
+    tell_cut(err, printed);
     explain_refusal(err, reply, bytes);
     printed
 }

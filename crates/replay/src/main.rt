@@ -10,7 +10,7 @@ use lines::{Floats, LINE_WORDS, Words};
 use scan::Tally;
 use std::fs::File;
 use std::io::{Read, Write};
-use transfer::{fail, number_of};
+use transfer::fail;
 
 // Reads once, and answers whether to go on.
 #[derive(Clone, Copy)]
@@ -63,7 +63,7 @@ fn compare_file<W: Write>(out: &mut W, file: &mut File, kind: Kind, path: &str) 
 fn replay(rt: &HostRuntime, kind: Kind, path: &str) {
     match File::open(rt, path) {
         Ok(mut file) => compare_file(&mut rt.stdout(), &mut file, kind, path),
-        Err(error) => fail(&mut rt.stderr(), path.as_bytes(), number_of(&error)),
+        Err(error) => fail(&mut rt.stderr(), path.as_bytes(), &error),
     }
 }
 

@@ -1,80 +1,82 @@
 -- What a transfer's calls do to the bytes that a writer holds and a reader has left. Assumes nothing.
-use Rattle.std.proofs.Common.{◌≡◌, ℕ, zero, suc, ◌+◌, ◌-◌, ◌≤◌, Bool, true, false, cond, ltb, List, [], ◌++◌, take, drop, refl, ap, append_assoc, append-nil, sym, ◌∙◌, ℤ, pos, negsuc, arith, length-append}
-use Rattle.std.proofs.Math.Seq.{take-add}
-use Rattle.std.specs.Prelude.{Option, None, Some}
-use Rattle.std.specs.Io.KnownBytes.{Appends, Consumes}
-use Rattle.transfer.specs.declared.Stand.TheVariants.{Open, Nothing, Interrupted, Failed}
+use Rattle.std.proofs.Common.{◌≡◌, ℕ, zero, suc, ◌+◌, ◌<◌, ◌≤◌, Bool, true, false, cond, List, [], ◌++◌, length, take, drop, refl, ap, sym, subst, ◌∙◌, arith, length-append}
+use Rattle.std.proofs.Math.Seq.{take-add, take-append-add, length-take-le}
+use Rattle.std.proofs.lemmas.List.{take-append-le}
+use Rattle.std.proofs.lemmas.Slice.{take-put_mid_below}
+use Rattle.std.proofs.KnownBytes.{Appends-trans, Appends-kept, Consumes-nil, Consumes-trans, Consumes-kept}
+use Rattle.std.specs.Prelude.{Option, Result, Ok, Err}
+use Rattle.std.specs.Result.{result_unwrap_or}
+use Rattle.std.specs.declared.io.Error.{Error}
+use Rattle.std.specs.IoError.{error_kind}
+use Rattle.std.specs.Io.{ReadsAtMost}
+use Rattle.std.specs.Io.KnownBytes.{Appends, Consumes, IsAtEnd, WriteAppends, ReadConsumes}
+use borrow.Rule.Slice.PartMut.{post_of, put_mid}
+use Rattle.transfer.specs.declared.Stop.TheVariants.{Nothing, Failed}
 use Rattle.transfer.specs.declared.Transfer.{Transfer}
-use Rattle.transfer.specs.Transfer.{Skips, most_interruptions, is_interruption, stopped_at, interrupted_again, after_failure, after_call}
+use Rattle.transfer.specs.Transfer.{Skips, is_interruption, stopped_at, interrupted_again, after_failure, after_call}
 
--- ---- what one call's answer counts
+-- how many bytes a call moved
+abbrev pub moved_by : Result ℕ Error → ℕ
+moved_by answer = result_unwrap_or answer 0
 
-module _ (t : Transfer) (error : ℤ) where
-  pub done_some : (k : ℕ) → (after_call t (pos k) error).done ≡ t.done + k
-  unfolding after_call
-  done_some zero = omega arith
-  done_some (suc k) = refl
+done-failure : (t : Transfer) (error : Error) (b : Bool) → (cond b (interrupted_again t.done (t.interrupted + 1)) (stopped_at t.done (Err (Failed error)))).done ≡ t.done
+unfolding interrupted_again
+done-failure t error true = refl
+done-failure t error false = refl
 
-  done_by : (b : Bool) → (cond b (interrupted_again t.done (t.interrupted + 1)) (stopped_at t.done (Failed error))).done ≡ t.done
-  unfolding interrupted_again
-  done_by true = refl
-  done_by false = refl
-
-  pub done_failure : (k : ℕ) → (after_call t (negsuc k) error).done ≡ t.done
-  unfolding after_call after_failure
-  done_failure k = done_by (is_interruption error)
-
-  pub nothing_some : (k : ℕ) → (after_call t (pos k) error).stand ≡ Nothing → k ≡ 0
-  unfolding after_call
-  nothing_some zero h = refl
-  nothing_some (suc k) h = cc
-
-  shut_by : (b : Bool) → cond b Open Interrupted ≡ Nothing → ⊥
-  shut_by true h = cc
-  shut_by false h = cc
-
-  nothing_by : (b : Bool) → (cond b (interrupted_again t.done (t.interrupted + 1)) (stopped_at t.done (Failed error))).stand ≡ Nothing → ⊥
-  unfolding interrupted_again
-  nothing_by true h = shut_by (ltb (t.interrupted + 1) most_interruptions) h
-  nothing_by false h = cc
-
-  pub nothing_failure : (k : ℕ) → (after_call t (negsuc k) error).stand ≡ Nothing → ⊥
-  unfolding after_call after_failure
-  nothing_failure k h = nothing_by (is_interruption error) h
+pub done-after_call : (t : Transfer) (answer : Result ℕ Error) → (after_call t answer).done ≡ t.done + moved_by answer
+unfolding after_call after_failure
+done-after_call t (Ok zero) = omega arith
+done-after_call t (Ok (suc k)) = refl
+done-after_call t (Err error) = done-failure t error (is_interruption (error_kind error)) ∙ omega arith
 
 -- ---- the bytes of one call behind those of others
 
-take_parts : (xs : List ℕ) (d e : ℕ) → d ≤ e → take d xs ++ take (e - d) (drop d xs) ≡ take e xs
-take_parts xs d e l = let s : d + (e - d) ≡ e = omega arith in sym (take-add d (e - d) xs) ∙ ap (λ k. take k xs) s
+pub appends_behind : (a b c : Option (List ℕ)) (t : Transfer) (answer : Result ℕ Error) (xs ys : List ℕ) → ys ≡ drop t.done xs → Appends a b (take t.done xs) → WriteAppends b c answer ys
+    → Appends a c (take (after_call t answer).done xs)
+appends_behind a b c t (Ok k) xs ys e p q =
+    let joined : take t.done xs ++ take k ys ≡ take (after_call t (Ok k)).done xs =
+    ap (λ zs. take t.done xs ++ take k zs) e ∙ sym (take-add t.done k xs) ∙ ap (λ d. take d xs) (sym (done-after_call t (Ok k))) in
+    subst (λ zs. Appends a c zs) joined (Appends-trans a b c _ _ p q)
+appends_behind a b c t (Err error) xs ys e p q = subst (λ d. Appends a c (take d xs)) (omega (arith, done-after_call t (Err error))) (Appends-kept a b c _ p q)
 
-pub appends_none : (a : Option (List ℕ)) → Appends a a []
-appends_none None = tt
-appends_none (Some x) = sym (append-nil x)
+-- the bytes of a slice behind those that a read put into its part from d on, m elements long
+put_front : (xs ys : List ℕ) (d m k : ℕ) → d ≤ length xs → k ≤ length ys → take (d + k) (put_mid d m xs ys) ≡ take d xs ++ take k ys
+put_front xs ys d m k l few =
+    let size : length (take d xs) ≡ d = length-take-le d xs l in
+    ap (λ n. take (n + k) (put_mid d m xs ys)) (sym size) ∙ take-append-add (take d xs) (ys ++ post_of d m xs) k ∙ ap (λ zs. take d xs ++ zs) (take-append-le k ys (post_of d m xs) few)
 
-pub appends_more : (a b c : Option (List ℕ)) (xs : List ℕ) (d e : ℕ) → d ≤ e → Appends a b (take d xs) → Appends b c (take (e - d) (drop d xs)) → Appends a c (take e xs)
-appends_more None b c xs d e l p q = tt
-appends_more (Some x) None c xs d e l p q = absurd p
-appends_more (Some x) (Some y) None xs d e l p q = absurd q
-appends_more (Some x) (Some y) (Some z) xs d e l p q = cc (append_assoc x (take d xs) (take (e - d) (drop d xs)), take_parts xs d e l)
+pub consumes_behind : (a b c : Option (List ℕ)) (t : Transfer) (answer : Result ℕ Error) (xs ys : List ℕ) (m : ℕ) → t.done ≤ length xs → ReadsAtMost answer ys → Consumes a b (take t.done xs) → ReadConsumes b c answer ys
+    → Consumes a c (take (after_call t answer).done (put_mid t.done m xs ys))
+consumes_behind a b c t (Ok k) xs ys m l few p q =
+    let joined : take t.done xs ++ take k ys ≡ take (after_call t (Ok k)).done (put_mid t.done m xs ys) =
+    sym (put_front xs ys t.done m k l few.0) ∙ ap (λ d. take d (put_mid t.done m xs ys)) (sym (done-after_call t (Ok k))) in
+    subst (λ zs. Consumes a c zs) joined (Consumes-trans a b c _ _ p q.0)
+consumes_behind a b c t (Err error) xs ys m l few p q =
+    let same : take t.done xs ≡ take (after_call t (Err error)).done (put_mid t.done m xs ys) =
+    sym (take-put_mid_below t.done m xs ys t.done (omega arith) l) ∙ ap (λ d. take d (put_mid t.done m xs ys)) (omega (arith, done-after_call t (Err error))) in
+    subst (λ zs. Consumes a c zs) same (Consumes-kept a b c _ p q)
 
-pub consumes_none : (a : Option (List ℕ)) → Consumes a a []
-consumes_none None = tt
-consumes_none (Some x) = refl
+shut : (t : Transfer) (error : Error) (b : Bool) → (cond b (interrupted_again t.done (t.interrupted + 1)) (stopped_at t.done (Err (Failed error)))).outcome ≡ Err Nothing → ⊥
+unfolding interrupted_again
+shut t error true h = grind arith
+shut t error false h = cc
 
-pub consumes_more : (a b c : Option (List ℕ)) (xs ys : List ℕ) (d e : ℕ) → d ≤ e → take d ys ≡ take d xs → Consumes a b (take d xs) → Consumes b c (take (e - d) (drop d ys)) → Consumes a c (take e ys)
-consumes_more None b c xs ys d e l f p q = tt
-consumes_more (Some x) None c xs ys d e l f p q = absurd p
-consumes_more (Some x) (Some y) None xs ys d e l f p q = absurd q
-consumes_more (Some x) (Some y) (Some z) xs ys d e l f p q = cc (append_assoc (take d ys) (take (e - d) (drop d ys)) z, take_parts ys d e l)
+-- a call that gave nothing, with room, was at the end
+pub end_behind : (b c : Option (List ℕ)) (t : Transfer) (answer : Result ℕ Error) (xs : List ℕ) → 0 < length xs → ReadConsumes b c answer xs → (after_call t answer).outcome ≡ Err Nothing → IsAtEnd c
+unfolding after_call after_failure
+end_behind b c t (Ok zero) xs l q h = q.1 refl l
+end_behind b c t (Ok (suc k)) xs l q h = absurd (cc)
+end_behind b c t (Err e) xs l q h = absurd (shut t e (is_interruption (error_kind e)) h)
 
-consumes_both : (a b c : Option (List ℕ)) (xs ys : List ℕ) → Consumes a b xs → Consumes b c ys → Consumes a c (xs ++ ys)
-consumes_both None b c xs ys p q = tt
-consumes_both (Some x) None c xs ys p q = absurd p
-consumes_both (Some x) (Some y) None xs ys p q = absurd q
-consumes_both (Some x) (Some y) (Some z) xs ys p q = cc (append_assoc xs ys z)
+-- ---- bytes that are read off
 
-pub skips_more : (a b c : Option (List ℕ)) (d e : ℕ) → d ≤ e → Skips a b d → Skips b c (e - d) → Skips a c e
-skips_more a b c d e l (xs, n, p) (ys, m, q) = (xs ++ ys, omega (arith, length-append xs ys, n, m, l), consumes_both a b c xs ys p q)
+skips_both : (a b c : Option (List ℕ)) (d k : ℕ) → Skips a b d → Skips b c k → Skips a c (d + k)
+skips_both a b c d k (xs, n, p) (ys, m, q) = (xs ++ ys, omega (arith, length-append xs ys, n, m), Consumes-trans a b c xs ys p q)
+
+pub skips_behind : (a b c : Option (List ℕ)) (t : Transfer) (answer : Result ℕ Error) (xs : List ℕ) → Skips a b t.done → ReadsAtMost answer xs → ReadConsumes b c answer xs → Skips a c (after_call t answer).done
+skips_behind a b c t (Ok k) xs p l q = subst (λ d. Skips a c d) (sym (done-after_call t (Ok k))) (skips_both a b c t.done k p (take k xs, length-take-le k xs l.0, q.0))
+skips_behind a b c t (Err e) xs (bs, n, p) l q = (bs, omega (arith, n, done-after_call t (Err e)), Consumes-kept a b c bs p q)
 
 pub skips_none : (a : Option (List ℕ)) → Skips a a 0
-skips_none a = ([], refl, consumes_none a)
+skips_none a = ([], refl, Consumes-nil a)

@@ -1,69 +1,55 @@
 -- How a transfer goes on by what a reader's read or a writer's write answers, and where it stops. Definitions only.
-use Rattle.std.specs.Prelude.{ℕ, zero, suc, ◌+◌, ◌-◌, ◌≤◌, ◌<◌, Bool, true, false, ◌&&◌, cond, ◌≡◌, eqb, ltb, ℤ, pos, negsuc, Option, List, length}
+use Rattle.std.specs.Prelude.{ℕ, zero, suc, ◌+◌, ◌-◌, ◌≤◌, ◌<◌, Bool, true, false, ◌&&◌, cond, ◌≡◌, ltb, Option, Result, Ok, Err, is_ok, IfOk, List, length}
+use Rattle.std.specs.declared.io.Error.{Error}
+use Rattle.std.specs.declared.io.ErrorKind.{ErrorKind}
+use Rattle.std.specs.IoError.{error_kind}
 use Rattle.std.specs.Io.KnownBytes.{Consumes}
-use Rattle.transfer.specs.declared.Stand.{Stand}
-use Rattle.transfer.specs.declared.Stand.TheVariants.{Open, Nothing, Interrupted, Failed}
+use Rattle.transfer.specs.declared.Stop.{Stop}
+use Rattle.transfer.specs.declared.Stop.TheVariants.{Nothing, Interrupted, Failed}
 use Rattle.transfer.specs.declared.Transfer.{Transfer}
-
-abbrev pub is_open : Stand → Bool
-is_open Open = true
-is_open Nothing = false
-is_open Interrupted = false
-is_open (Failed error) = false
 
 -- so many interruptions in a row end a transfer
 abbrev pub most_interruptions : ℕ
 most_interruptions = 100
 
--- how many bytes a call moved
-abbrev pub counted : ℤ → ℕ
-counted (pos k) = k
-counted (negsuc k) = 0
+abbrev pub is_interruption : ErrorKind → Bool
+is_interruption ErrorKind.Interrupted = true
+is_interruption _ = false
 
--- EINTR
-abbrev pub is_interruption : ℤ → Bool
-is_interruption (pos k) = eqb k 4
-is_interruption (negsuc k) = false
-
-abbrev pub stopped_at : ℕ → Stand → Transfer
-stopped_at done stand = record { done = done; interrupted = 0; stand = stand }
+abbrev pub stopped_at : ℕ → Result (Unit {0}) Stop → Transfer
+stopped_at done outcome = record { done = done; interrupted = 0; outcome = outcome }
 
 -- one interruption more
 unfoldable pub interrupted_again : ℕ → ℕ → Transfer
-interrupted_again done n = record { done = done; interrupted = n; stand = cond (ltb n most_interruptions) Open Interrupted }
+interrupted_again done n = record { done = done; interrupted = n; outcome = cond (ltb n most_interruptions) (Ok tt) (Err Interrupted) }
 
-unfoldable pub after_failure : Transfer → ℤ → Transfer
-after_failure t error = cond (is_interruption error) (interrupted_again t.done (t.interrupted + 1)) (stopped_at t.done (Failed error))
+unfoldable pub after_failure : Transfer → Error → Transfer
+after_failure t error = cond (is_interruption (error_kind error)) (interrupted_again t.done (t.interrupted + 1)) (stopped_at t.done (Err (Failed error)))
 
--- the transfer behind a call: by its answer, and by the error's number where it failed
-unfoldable pub after_call : Transfer → ℤ → ℤ → Transfer
-after_call t (negsuc k) error = after_failure t error
-after_call t (pos zero) error = stopped_at t.done Nothing
-after_call t (pos (suc k)) error = stopped_at (t.done + suc k) Open
+-- the transfer behind a call, by its answer
+unfoldable pub after_call : Transfer → Result ℕ Error → Transfer
+after_call t (Err error) = after_failure t error
+after_call t (Ok zero) = stopped_at t.done (Err Nothing)
+after_call t (Ok (suc k)) = stopped_at (t.done + suc k) (Ok tt)
 
 abbrev pub start : Transfer
-start = stopped_at 0 Open
-
--- what a call that is handed n bytes may answer: -1, or how many bytes it moved, at most n
-abbrev pub Moved : ℕ → ℤ → Type 0
-Moved n (pos k) = k ≤ n
-Moved n (negsuc k) = k ≡ 0
+start = stopped_at 0 (Ok tt)
 
 -- a transfer of n bytes, which can be called for
 pub record Within (n : ℕ) (t : Transfer) : Type 0 where
   pub done_within : t.done ≤ n
   pub not_often : t.interrupted < most_interruptions
 
--- what a call that is handed the rest of n bytes makes of a transfer: by some answer of those that the system may give
+-- what a call that is handed the rest of n bytes makes of a transfer: by some answer of those that the call may give, which
+-- are a failure, or how many bytes it moved
 pub record Answered (n : ℕ) (t r : Transfer) : Type 0 where
-  pub got : ℤ
-  pub error : ℤ
-  pub moved : Moved (n - t.done) got
-  pub behind : r ≡ after_call t got error
+  pub answer : Result ℕ Error
+  pub moved : IfOk answer (λ k. k ≤ n - t.done)
+  pub behind : r ≡ after_call t answer
 
 -- whether a call is due: nothing ended the transfer, and bytes are left
 abbrev pub is_due : ℕ → Transfer → Bool
-is_due n t = is_open t.stand && ltb t.done n
+is_due n t = is_ok t.outcome && ltb t.done n
 
 -- the transfers of n bytes that calls lead to, each made where it was due
 pub data Reached (n : ℕ) : Transfer → Type 0 where

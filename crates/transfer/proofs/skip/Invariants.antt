@@ -3,11 +3,11 @@ use Rattle.transfer.specs.Transfer.{Reached, Skips}
 use Rattle.transfer.proofs.Calls.{calls_left}
 use Rattle.transfer.proofs.skip.Given as goal
 
-abbrev pub invariant-loop-input : goal.invariant-loop-input
-invariant-loop-input g l = record {
+abbrev pub invariant-loop-room : goal.invariant-loop-room
+invariant-loop-room g l = record {
   reached : Reached l.n l.t;
   bytes : Skips (g.R.Read.remaining l.fn.input) (g.R.Read.remaining l.input) l.t.done;
 }
 
-abbrev pub decreases-loop-input : goal.decreases-loop-input
-decreases-loop-input g l = calls_left l.n l.t
+abbrev pub decreases-loop-room : goal.decreases-loop-room
+decreases-loop-room g l = calls_left l.n l.t

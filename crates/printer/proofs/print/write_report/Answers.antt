@@ -1,11 +1,11 @@
 -- Each block follows what was handed over before it.
 use Rattle.std.proofs.Common.{◌≡◌, length, sym, ◌∙◌, lit≤}
-use Rattle.transfer.proofs.Bytes.{appends_none}
+use Rattle.std.proofs.KnownBytes.{Appends-nil}
 use Rattle.printer.proofs.Printing.{going, none_yet, next, more_bytes, written}
 use Rattle.printer.proofs.print.write_report.Goals as goal
 
 pub loop-left-init : goal.loop-left-init
-loop-left-init g c = record { handed = none_yet _ _ c.requires.0; bytes = appends_none _ }
+loop-left-init g c = record { handed = none_yet _ _ c.requires.0; bytes = Appends-nil _ }
 
 pub loop-left-preserved : goal.loop-left-preserved
 loop-left-preserved g c =

@@ -1,9 +1,0 @@
--- The place does not leave the bytes. The measure is what is left of them.
-use Rattle.std.proofs.Common.{◌-◌, ◌≤◌, length}
-use Rattle.printer.proofs.ending.find_lf.Given as goal
-
-abbrev pub invariant-loop-i : goal.invariant-loop-i
-invariant-loop-i l = (l.from ≤ l.i) × (l.i ≤ length l.s)
-
-abbrev pub decreases-loop-i : goal.decreases-loop-i
-decreases-loop-i l = length l.s - l.i
