@@ -228,5 +228,7 @@ pub fn vec3_coordinate_system(v1: Vector3f) -> Option<(Vector3f, Vector3f)>
         };
         v2.div(float::sqrt(v1.y * v1.y + v1.z * v1.z))?
     };
-    Some((v2, v1.cross(v2)))
+    // By its parts: with one caller fewer `cross_parts` is put into `cross_squared`, which takes its vectors from memory.
+    let crossed = cross_parts(v1.x, v1.y, v1.z, v2.x, v2.y, v2.z);
+    Some((v2, crossed.v))
 }

@@ -20,18 +20,13 @@ pub fn transform_bounds(m: Matrix4x4, b: Bounds3f) -> Option<Bounds3f>
 {
     let low = b.p_min;
     let high = b.p_max;
-    let corners = [
-        point(high.x, low.y, low.z),
-        point(low.x, high.y, low.z),
-        point(low.x, low.y, high.z),
-        point(low.x, high.y, high.z),
-        point(high.x, high.y, low.z),
-        point(high.x, low.y, high.z),
-        high,
-    ];
-    let mut ret = Bounds3f::from_point(transform_point(m, low)?);
-    for corner in corners {
-        ret = ret.union_point(transform_point(m, corner)?);
-    }
-    Some(ret)
+    // Corner after corner: a loop over an array of them takes a tenth longer for the hall box.
+    let b0 = Bounds3f::from_point(transform_point(m, low)?);
+    let b1 = b0.union_point(transform_point(m, point(high.x, low.y, low.z))?);
+    let b2 = b1.union_point(transform_point(m, point(low.x, high.y, low.z))?);
+    let b3 = b2.union_point(transform_point(m, point(low.x, low.y, high.z))?);
+    let b4 = b3.union_point(transform_point(m, point(low.x, high.y, high.z))?);
+    let b5 = b4.union_point(transform_point(m, point(high.x, high.y, low.z))?);
+    let b6 = b5.union_point(transform_point(m, point(high.x, low.y, high.z))?);
+    Some(b6.union_point(transform_point(m, high)?))
 }
