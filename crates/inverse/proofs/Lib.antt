@@ -1,2 +1,4 @@
+mod Lines
+mod Reduced
 mod Rows
 mod Taken

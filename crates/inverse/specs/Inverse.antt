@@ -1,13 +1,13 @@
 -- `Matrix4x4::inverse` of pbrt-rust, src/core/transform.rs: Gauss-Jordan elimination with full pivoting, each operation at binary32 and in
 -- the order of the Rust. A matrix is a list of sixteen floats, with `m[j][k]` at 4 * j + k. `error!`, which only logs, has no part here.
-use Rattle.std.specs.Prelude.{ℕ, ◌+◌, ◌*◌, ◌≤◌, ◌<◌, cond, List, eqb, get_or, set, Float}
+use Rattle.std.specs.Prelude.{ℕ, ◌+◌, ◌*◌, ◌≤◌, Bool, cond, if◌then◌else◌, List, eqb, get_or, set, Float}
 use Rattle.float.specs.Arith.{◌⊖◌, ◌⊗◌, ◌⊘◌, 0f, 1f}
 use Rattle.pivot.specs.declared.Pivot.{Pivot}
 use Rattle.pivot.specs.Pivot.{Matrix, at, none_taken, pivot_of}
 
 -- For functions inside: no column was taken more than n times.
 pub record AtMost (n : ℕ) (ipiv : List ℕ) : Type 0 where
-  pub each : (k : ℕ) → k < 4 → get_or ipiv k 0 ≤ n
+  pub each : (k : ℕ) → get_or ipiv k 0 ≤ n
 
 -- ipiv[k] += 1
 unfoldable pub column_taken : List ℕ → ℕ → List ℕ
@@ -25,6 +25,10 @@ exchange_rows m i j =
 -- if irow != icol { .. }
 unfoldable pub swap_rows : Matrix → ℕ → ℕ → Matrix
 swap_rows m irow icol = cond (eqb irow icol) m (exchange_rows m irow icol)
+
+-- For functions inside: where entry k of a line stands, of a row or of a column.
+abbrev pub entry_at : Bool → ℕ → ℕ → ℕ
+entry_at of_row line k = if of_row then 4 * line + k else 4 * k + line
 
 -- m[i] *= v
 abbrev pub times_at : Matrix → ℕ → Float → Matrix

@@ -1,10 +1,10 @@
 // `Matrix4x4` of pbrt-rust, src/core/transform.rs: a struct of rows for callers. Its inverse is worked out on sixteen floats, in the crate `inverse`.
-#![tactic(auto)]
+#![tactic(auto, unfolding(crate::specs::Matrix::identity, crate::specs::Matrix::flat, crate::specs::Matrix::row_from, crate::specs::Matrix::matrix_from))]
 
 ghost use Rattle.std.specs.Prelude.{◌≡◌, ◌+◌, ◌≤◌, length};
 ghost use Rattle.matrix.specs.Matrix.{matrix_floats, identity, flat, row_from, matrix_from, inverse_of};
 
-#[derive(Clone, Copy)]
+#[derive(Clone, Copy, Debug, PartialEq)]
 pub struct Row {
     pub c0: f32,
     pub c1: f32,
@@ -12,7 +12,7 @@ pub struct Row {
     pub c3: f32,
 }
 
-#[derive(Clone, Copy)]
+#[derive(Clone, Copy, Debug, PartialEq)]
 pub struct Matrix4x4 {
     pub r0: Row,
     pub r1: Row,
@@ -49,29 +49,39 @@ pub fn matrix_from(s: &[f32], at: usize) -> Matrix4x4
     }
 }
 
-// All of an array as a matrix. An array has its length by its type, also after it was worked on in place.
-fn matrix_of(v: &[f32; MATRIX_FLOATS]) -> Matrix4x4
-    ensures { result ≡ matrix_from v.now 0 }
-{
-    matrix_from(v, 0)
+// All of an array, row by row.
+impl From<&[f32; MATRIX_FLOATS]> for Matrix4x4 {
+    ghost from_gives = { λ v m. m ≡ matrix_from v.now 0 };
+
+    fn from(v: &[f32; MATRIX_FLOATS]) -> Matrix4x4 {
+        matrix_from(v, 0)
+    }
 }
 
-// A matrix as floats, row by row: matrix_from reads it back.
+// And back.
+impl From<Matrix4x4> for [f32; MATRIX_FLOATS] {
+    ghost from_gives = { λ m v. v ≡ flat m };
+
+    fn from(m: Matrix4x4) -> [f32; MATRIX_FLOATS] {
+        [
+            m.r0.c0, m.r0.c1, m.r0.c2, m.r0.c3, m.r1.c0, m.r1.c1, m.r1.c2, m.r1.c3, m.r2.c0, m
+                .r2
+                .c1, m.r2.c2, m.r2.c3, m.r3.c0, m.r3.c1, m.r3.c2, m.r3.c3,
+        ]
+    }
+}
+
 pub fn flatten(m: Matrix4x4) -> [f32; MATRIX_FLOATS]
     ensures { result ≡ flat m }
 {
-    [
-        m.r0.c0, m.r0.c1, m.r0.c2, m.r0.c3, m.r1.c0, m.r1.c1, m.r1.c2, m.r1.c3, m.r2.c0, m.r2.c1, m
-            .r2
-            .c2, m.r2.c3, m.r3.c0, m.r3.c1, m.r3.c2, m.r3.c3,
-    ]
+    <[f32; MATRIX_FLOATS]>::from(m)
 }
 
-impl Matrix4x4 {
-    // The identity.
-    pub fn default() -> Matrix4x4
-        ensures { result ≡ identity }
-    {
+// The identity.
+impl Default for Matrix4x4 {
+    ghost is_default = { λ m. m ≡ identity };
+
+    fn default() -> Matrix4x4 {
         let r0 = Row {
             c0: 1.0,
             c1: 0.0,
@@ -98,12 +108,14 @@ impl Matrix4x4 {
         };
         Matrix4x4 { r0, r1, r2, r3 }
     }
+}
 
+impl Matrix4x4 {
     pub fn inverse(self) -> Matrix4x4
         ensures { result ≡ inverse_of self }
     {
-        let mut v = flatten(self);
+        let mut v = <[f32; MATRIX_FLOATS]>::from(self);
         inverse::invert(&mut v);
-        matrix_of(&v)
+        Matrix4x4::from(&v)
     }
 }

@@ -1,6 +1,6 @@
 -- The pivot of `Matrix4x4::inverse` of pbrt-rust, src/core/transform.rs: big, irow and icol of a turn. A matrix is a list of sixteen floats, with
 -- `m[j][k]` at 4 * j + k. Definitions only.
-use Rattle.std.specs.Prelude.{ℕ, ◌+◌, ◌*◌, ◌<◌, cond, List, [], ◌∷◌, eqb, get_or, Float}
+use Rattle.std.specs.Prelude.{ℕ, ◌+◌, ◌*◌, cond, List, [], ◌∷◌, eqb, get_or, Float}
 use Rattle.std.specs.Float.{nan}
 use Rattle.std.specs.Float.Ieee.{le}
 use Rattle.float.specs.Arith.{0f}
@@ -12,11 +12,6 @@ Matrix = List Float
 
 abbrev pub at : Matrix → ℕ → Float
 at m i = get_or m i nan
-
--- a place in the matrix
-pub record Placed (p : Pivot) : Type 0 where
-  pub row_in : p.row < 4
-  pub col_in : p.col < 4
 
 -- ipiv before the first turn
 abbrev pub none_taken : List ℕ

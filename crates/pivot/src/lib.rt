@@ -3,107 +3,80 @@
 // of two equal entries is.
 #![tactic(auto)]
 
-ghost use Rattle.std.specs.Prelude.{◌≡◌, ◌<◌};
-ghost use Rattle.pivot.specs.Pivot.{Placed, none_taken, look_entry, look_along, look_row, pivot_of};
+ghost use Rattle.std.specs.Prelude.{◌≡◌, IsTrue, slice_index};
+ghost use Rattle.pivot.specs.Pivot.{none_taken, look_entry, look_along, pivot_of};
+
+mod line;
+
+pub use line::Line;
 
 // The pivot found so far: big, irow and icol.
 #[derive(Clone, Copy)]
 pub struct Pivot {
     pub big: f32,
-    pub row: usize,
-    pub col: usize,
+    pub row: Line,
+    pub col: Line,
 }
 
-// The entry x at row j and column k, which is not taken, after the best so far. A NaN is told apart first, which abs would
-// do anyway: so nothing that follows has to reckon with one.
-fn look(best: Pivot, j: usize, k: usize, x: f32) -> Pivot
-    requires { Placed best × (j < 4) × (k < 4) }
-    ensures { (result ≡ look_entry best 0 j k x) × Placed result }
+// For the first turn: no column is taken, and it is quicker where no mark is asked for.
+pub const FIRST: bool = true;
+
+// For a later turn, by its marks.
+pub const LATER: bool = false;
+
+// The entry x, which is not taken, after the best so far. A NaN is told apart first, which abs would do anyway: so nothing
+// that follows has to reckon with one.
+fn look(best: Pivot, row: Line, col: Line, x: f32) -> Pivot
+    ensures { result ≡ look_entry best 0 row col x }
 {
     if x != x {
         return best;
     }
-    let a = float::abs(x);
-    if a >= best.big {
-        return Pivot {
-            big: a,
-            row: j,
-            col: k,
-        };
+    let big = float::abs(x);
+    if big >= best.big {
+        return Pivot { big, row, col };
     }
     best
 }
 
-// The same where the column's mark, ipiv[k], says whether it is taken.
-fn look_marked(best: Pivot, mark: usize, j: usize, k: usize, x: f32) -> Pivot
-    requires { Placed best × (j < 4) × (k < 4) }
-    ensures { (result ≡ look_entry best mark j k x) × Placed result }
+// How often a column, or a row, was taken. In the first turn the marks are not read.
+fn mark<const IS_FIRST: bool>(ipiv: &[usize; 4], line: Line) -> usize
+    requires { IsTrue IS_FIRST → ipiv.now ≡ none_taken }
+    ensures { result ≡ slice_index ipiv.now line }
 {
-    if mark == 0 {
-        return look(best, j, k, x);
+    if IS_FIRST { 0 } else { ipiv[line.at()] }
+}
+
+// A row's entries after the best so far.
+fn look_along<const IS_FIRST: bool>(p: Pivot, m: &[f32; 16], ipiv: &[usize; 4], row: Line) -> Pivot
+    requires { IsTrue IS_FIRST → ipiv.now ≡ none_taken }
+    ensures { result ≡ look_along p m.now ipiv.now row }
+{
+    let mut best = p;
+    for k in 0..4 {
+        let col = Line::new(k);
+        if mark::<IS_FIRST>(ipiv, col) == 0 {
+            best = look(best, row, col, m[4 * row.at() + k]);
+        }
     }
     best
 }
 
-fn look_along(p: Pivot, m: &[f32; 16], ipiv: &[usize; 4], j: usize) -> Pivot
-    requires { Placed p × (j < 4) }
-    ensures { (result ≡ look_along p m.now ipiv.now j) × Placed result }
+// The pivot of a turn.
+pub fn find_pivot<const IS_FIRST: bool>(m: &[f32; 16], ipiv: &[usize; 4]) -> Pivot
+    requires { IsTrue IS_FIRST → ipiv.now ≡ none_taken }
+    ensures { result ≡ pivot_of m.now ipiv.now }
 {
-    let r = 4 * j;
-    let p0 = look_marked(p, ipiv[0], j, 0, m[r]);
-    let p1 = look_marked(p0, ipiv[1], j, 1, m[r + 1]);
-    let p2 = look_marked(p1, ipiv[2], j, 2, m[r + 2]);
-    look_marked(p2, ipiv[3], j, 3, m[r + 3])
-}
-
-fn look_row(p: Pivot, m: &[f32; 16], ipiv: &[usize; 4], j: usize) -> Pivot
-    requires { Placed p × (j < 4) }
-    ensures { (result ≡ look_row p m.now ipiv.now j) × Placed result }
-{
-    if ipiv[j] == 1 {
-        return p;
+    let mut best = Pivot {
+        big: 0.0,
+        row: Line::new(0),
+        col: Line::new(0),
+    };
+    for j in 0..4 {
+        let row = Line::new(j);
+        if mark::<IS_FIRST>(ipiv, row) != 1 {
+            best = look_along::<IS_FIRST>(best, m, ipiv, row);
+        }
     }
-    look_along(p, m, ipiv, j)
-}
-
-// The pivot of a turn, by the marks.
-pub fn find_pivot(m: &[f32; 16], ipiv: &[usize; 4]) -> Pivot
-    ensures { (result ≡ pivot_of m.now ipiv.now) × Placed result }
-{
-    let p = Pivot {
-        big: 0.0f32,
-        row: 0,
-        col: 0,
-    };
-    let p0 = look_row(p, m, ipiv, 0);
-    let p1 = look_row(p0, m, ipiv, 1);
-    let p2 = look_row(p1, m, ipiv, 2);
-    look_row(p2, m, ipiv, 3)
-}
-
-// In the first turn no column is taken: it is quicker where no mark is asked for.
-fn look_along_first(p: Pivot, m: &[f32; 16], j: usize) -> Pivot
-    requires { Placed p × (j < 4) }
-    ensures { (result ≡ look_along p m.now none_taken j) × Placed result }
-{
-    let r = 4 * j;
-    let p0 = look(p, j, 0, m[r]);
-    let p1 = look(p0, j, 1, m[r + 1]);
-    let p2 = look(p1, j, 2, m[r + 2]);
-    look(p2, j, 3, m[r + 3])
-}
-
-// The pivot of the first turn.
-pub fn find_first(m: &[f32; 16]) -> Pivot
-    ensures { (result ≡ pivot_of m.now none_taken) × Placed result }
-{
-    let p = Pivot {
-        big: 0.0f32,
-        row: 0,
-        col: 0,
-    };
-    let p0 = look_along_first(p, m, 0);
-    let p1 = look_along_first(p0, m, 1);
-    let p2 = look_along_first(p1, m, 2);
-    look_along_first(p2, m, 3)
+    best
 }

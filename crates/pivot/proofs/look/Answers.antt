@@ -1,0 +1,30 @@
+-- What differs from itself is a NaN, which is at least nothing.
+use Rattle.std.proofs.Common.{◌≡◌, refl, sym, ap, subst, ◌∙◌, true, false}
+use lib.Dec.{T}
+use lib.Ieee.{Float, nan, inf, fin, lt, eq, le, ne}
+use lib.Ieee.Compare.{differs_from_itself}
+use Rattle.float.specs.Basic.{abs_of}
+use Rattle.pivot.specs.Pivot.{look_entry}
+use Rattle.pivot.proofs.look.Goals as goal
+
+under-nan : (b : Float) → le b (abs_of nan) ≡ false
+unfolding le lt eq abs_of
+under-nan nan = refl
+under-nan (inf true) = refl
+under-nan (inf false) = refl
+under-nan (fin s m e) = refl
+
+passed-by : (b x : Float) → ne x x ≡ true → le b (abs_of x) ≡ false
+passed-by b x h = ap (λ (y : Float). le b (abs_of y)) (differs_from_itself x (subst T (sym h) tt)) ∙ under-nan b
+
+pub returns-then-x : goal.returns-then-x
+unfolding look_entry
+returns-then-x c = simp (passed-by c.args.best.big c.args.x c.if-x.true)
+
+pub returns-then-big-best : goal.returns-then-big-best
+unfolding look_entry
+returns-then-big-best c = unfold le in simp (← c.abs-big.ensures, c.if-big-best.true)
+
+pub returns : goal.returns
+unfolding look_entry
+returns c = simp (← c.abs-big.ensures, c.if-big-best.false)
