@@ -1,14 +1,14 @@
 // What a ray meets: SurfaceInteraction of src/core/interaction.rs of pbrt-rust, as far as a flat curve fills it.
-#![tactic(auto)]
+#![tactic(auto, unfolding(crate::specs::Floats::record_floats, crate::specs::Floats::record_from))]
 
 ghost use Rattle.std.specs.Prelude.{◌≡◌, ◌≤◌, length};
 ghost use Rattle.interaction.specs.Floats.{record_size, record_floats, record_from};
 
 use geometry::{Normal3f, Point3f, Vector3f, point_from, vector_from};
 
-// Where a ray meets a curve, in the object's frame (01: a hit's record). The Rust hands the distance
-// out beside its SurfaceInteraction and has u and v in a point.
-#[derive(Clone, Copy)]
+// Where a ray meets a curve, in the object's frame: a hit's record. The Rust hands the distance out beside its
+// SurfaceInteraction and has u and v in a point.
+#[derive(Clone, Copy, Debug, PartialEq)]
 pub struct SurfaceInteraction {
     pub t_hit: f32,
     pub u: f32,
@@ -25,33 +25,41 @@ pub struct SurfaceInteraction {
 // How many floats a record is.
 pub const RECORD_FLOATS: usize = 22;
 
+impl From<SurfaceInteraction> for [f32; RECORD_FLOATS] {
+    ghost from_gives = { λ h floats. floats ≡ record_floats h };
+
+    fn from(h: SurfaceInteraction) -> [f32; RECORD_FLOATS] {
+        [
+            h.t_hit,
+            h.u,
+            h.v,
+            h.p.x,
+            h.p.y,
+            h.p.z,
+            h.p_error.x,
+            h.p_error.y,
+            h.p_error.z,
+            h.time,
+            h.wo.x,
+            h.wo.y,
+            h.wo.z,
+            h.n.x,
+            h.n.y,
+            h.n.z,
+            h.dpdu.x,
+            h.dpdu.y,
+            h.dpdu.z,
+            h.dpdv.x,
+            h.dpdv.y,
+            h.dpdv.z,
+        ]
+    }
+}
+
 pub fn record_floats(h: SurfaceInteraction) -> [f32; RECORD_FLOATS]
     ensures { result ≡ record_floats h }
 {
-    [
-        h.t_hit,
-        h.u,
-        h.v,
-        h.p.x,
-        h.p.y,
-        h.p.z,
-        h.p_error.x,
-        h.p_error.y,
-        h.p_error.z,
-        h.time,
-        h.wo.x,
-        h.wo.y,
-        h.wo.z,
-        h.n.x,
-        h.n.y,
-        h.n.z,
-        h.dpdu.x,
-        h.dpdu.y,
-        h.dpdu.z,
-        h.dpdv.x,
-        h.dpdv.y,
-        h.dpdv.z,
-    ]
+    <[f32; RECORD_FLOATS]>::from(h)
 }
 
 // The record whose floats stand at the start of a slice. It asks that they are there: it reads for other crates.
