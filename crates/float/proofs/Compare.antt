@@ -1,5 +1,5 @@
 -- NaNs: `x != x` is the test for one, and 0.0 / 0.0 is one. Assumes nothing.
-use Rattle.std.proofs.Common.{◌≡◌, ◌*◌, Bool, true, false, cond, not, ◌&&◌, ◌||◌, T, sym, refl, ap, ◌∙◌, subst, eq-eqb}
+use Rattle.std.proofs.Common.{◌≡◌, ◌*◌, Bool, true, false, cond, not, ◌&&◌, ◌||◌, T, sym, refl, ap, ◌∙◌, subst, true≢false, eq-eqb}
 use lib.Ieee.{Float, nan, inf, fin, binary32, up, down, div, eq, ne, level, is_nan, of_bits}
 use lib.Ieee.Compare.{differs_from_itself}
 
@@ -7,6 +7,12 @@ use lib.Ieee.Compare.{differs_from_itself}
 pub quotient-nan : div binary32 (of_bits binary32 0) (of_bits binary32 0) ≡ nan
 unfolding div of_bits
 quotient-nan = refl
+
+pub is_none : (x : Float) → true ≡ is_nan x → x ≡ nan
+unfolding is_nan
+is_none nan h = refl
+is_none (inf s) h = absurd (true≢false h)
+is_none (fin s m e) h = absurd (true≢false h)
 
 pub nan_of : (x : Float) → ne x x ≡ true → x ≡ nan
 nan_of x h = differs_from_itself x (subst T (sym h) tt)

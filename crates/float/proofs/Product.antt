@@ -3,22 +3,21 @@ use Rattle.std.proofs.Common.{◌≡◌, ℕ, zero, suc, ◌+◌, ◌-◌, ◌*�
 use lib.Ieee.{Float, nan, inf, fin, Format, prec, low, hid, ones, of_fields, up, down, is_nan}
 use lib.Ieee.Fits.{down_pos}
 use lib.Ieee.Exact.{HasValue}
-use mathlib.Core.Option.{some}
+use Rattle.std.specs.Prelude.{Some, None}
 use Rattle.float.specs.declared.rounding.Ties.{Ties}
-use Rattle.float.specs.declared.rounding.Rounded.TheVariants.{Whole, Beyond}
 use Rattle.float.specs.Whole.{nearest_to, at_half, with_sign, whole_of, size_held, held, product_of}
 use Rattle.float.proofs.Fields.{significand, significand_lt, finite_at, infinite_at}
 use Rattle.float.proofs.Nearest.{half_rule, nearest_same, nearest-whole, nearest_none}
 use Rattle.float.proofs.Pattern.{join, product_lt, twice, twice_hid}
 
 -- by any fraction that the value equals
-whole-value : (t : Ties) (k : ℕ) (v : Float) (s : Bool) (a c : ℕ) → 0 < c → HasValue v s a c → whole_of t k v ≡ some (with_sign s (nearest_to (at_half t s) (a * k) c))
+whole-value : (t : Ties) (k : ℕ) (v : Float) (s : Bool) (a c : ℕ) → 0 < c → HasValue v s a c → whole_of t k v ≡ Some (with_sign s (nearest_to (at_half t s) (a * k) c))
 unfolding whole_of
 whole-value t k nan s a c C h = absurd h
 whole-value t k (inf z) s a c C h = absurd h
 whole-value t k (fin z m e) s a c C (p, q) =
-    ap (λ (b : Bool). some (with_sign b (nearest_to (at_half t b) (m * up e * k) (down e)))) p
-    ∙ ap (λ (n : ℕ). some (with_sign s n))
+    ap (λ (b : Bool). Some (with_sign b (nearest_to (at_half t b) (m * up e * k) (down e)))) p
+    ∙ ap (λ (n : ℕ). Some (with_sign s n))
     (nearest_same (at_half t s) (half_rule t s) (m * up e * k) (down e) (a * k) c (down_pos e) C (mul_right_comm (m * up e) k c ∙ ap (λ (x : ℕ). x * k) q ∙ mul_right_comm a (down e) k))
 
 pub size-signed : (s : Bool) (n : ℕ) → nat_abs (with_sign s n) ≡ n
@@ -57,7 +56,7 @@ module _ (f : Format) (w : ℕ) (t : Ties) (k : ℕ) (s : Bool) (E d : ℕ) (K :
   shifted l = mul_right_comm m (2 ^ (E - 1)) k ∙ ap (λ (x : ℕ). x * k * 2 ^ (E - 1)) (normal f E d l)
 
   -- less than a half
-  pub arm_none : E < ones f → prec f + (E - 1) + w < low f → Whole 0 ≡ product_of t k v
+  pub arm_none : E < ones f → prec f + (E - 1) + w < low f → Some 0 ≡ product_of t k v
   arm_none h l = sym (is_nearest h ∙ ap size_held (nearest_none (at_half t s) (m * 2 ^ (E - 1) * k) (2 ^ low f) (double (low f) (m * 2 ^ (E - 1) * k) (prec f + (E - 1) + w) l (product_lt (prec f + (E - 1)) w (shl_lt (prec f) (E - 1) (significand_lt f E d D)) K))))
     where
       double : (n x i : ℕ) → i < n → x < 2 ^ i → x * 2 < 2 ^ n
@@ -92,24 +91,24 @@ module _ (f : Format) (w : ℕ) (t : Ties) (k : ℕ) (s : Bool) (E d : ℕ) (K :
       all : (E n : ℕ) → n < E → E - suc n + n ≡ E - 1
       all E n a = omega arith
 
-  pub arm_zero : E < ones f → low f < E → p ≡ 0 → Whole 0 ≡ product_of t k v
+  pub arm_zero : E < ones f → low f < E → p ≡ 0 → Some 0 ≡ product_of t k v
   arm_zero h l e = ap size_held (sym (ap (λ (x : ℕ). x * 2 ^ (E - suc (low f))) e ∙ zero-mul (2 ^ (E - suc (low f))))) ∙ arm_whole h l
 
   -- the digits alone, shifted by j, are more than a u32 holds
-  pub arm_large : E < ones f → low f < E → (j : ℕ) → j ≤ E - suc (low f) → 2 ^ 32 ≤ hid f * 2 ^ j → (p ≡ 0 → ⊥) → Beyond ≡ product_of t k v
+  pub arm_large : E < ones f → low f < E → (j : ℕ) → j ≤ E - suc (low f) → 2 ^ 32 ≤ hid f * 2 ^ j → (p ≡ 0 → ⊥) → None ≡ product_of t k v
   arm_large h l j g big n =
       let x = p * 2 ^ (E - suc (low f)) in
-      ap (λ (b : Bool). cond b (Whole x) Beyond) (sym (le-ltb x (2 ^ 32) (le_trans big (mul-le-mul (one k n) (pow_mono {i = j} {j = E - suc (low f)} g))))) ∙ arm_whole h l
+      ap (λ (b : Bool). cond b (Some x) None) (sym (le-ltb x (2 ^ 32) (le_trans big (mul-le-mul (one k n) (pow_mono {i = j} {j = E - suc (low f)} g))))) ∙ arm_whole h l
     where
       one : (k : ℕ) → ((d + hid f) * k ≡ 0 → ⊥) → hid f ≤ (d + hid f) * k
       one zero n = absurd (n (mul_comm (d + hid f) 0 ∙ zero-mul (d + hid f)))
       one (suc k) n = le_trans (le-add_left (hid f) d) (subst (λ (x : ℕ). x ≤ (d + hid f) * suc k) (mul-one (d + hid f)) (mul-le-mul_left (d + hid f) (zero-lt-suc k)))
 
 -- the last field is an infinity's or a NaN's
-pub arm_last : (f : Format) (t : Ties) (k : ℕ) (s : Bool) (E d : ℕ) → E ≡ ones f → Beyond ≡ product_of t k (of_fields f s E d)
+pub arm_last : (f : Format) (t : Ties) (k : ℕ) (s : Bool) (E d : ℕ) → E ≡ ones f → None ≡ product_of t k (of_fields f s E d)
 arm_last f t k s E d e = go (of_fields f s E d) (infinite_at f s E d e)
   where
-    go : (v : Float) → (T (not (is_nan v)) → v ≡ inf s) → Beyond ≡ product_of t k v
+    go : (v : Float) → (T (not (is_nan v)) → v ≡ inf s) → None ≡ product_of t k v
     go nan h = unfold product_of whole_of in refl
     go (inf z) h = unfold product_of whole_of in refl
     go (fin z m e) h = absurd (never (h (unfold is_nan in tt)))

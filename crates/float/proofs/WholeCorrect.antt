@@ -1,7 +1,7 @@
 -- What `whole_of` means, over the tie rule: the whole number nearest to the exact value of a float times a whole number. Assumes nothing.
 -- A finite x is num x / den x in size.
 use Rattle.std.proofs.Common.{◌≡◌, ℕ, zero, suc, ◌+◌, ◌-◌, ◌*◌, ◌/◌, ◌%◌, ◌<◌, ◌≤◌, Bool, true, false, cond, T, ℤ, pos, negsuc, neg_ℤ, nat_abs, ◌≤ℤ◌, sym, refl, ap, ◌∙◌, subst, zero-le, le_trans, le_of_eq, le_of_suc-le-suc, add-zero, mul-le-mul_right, mod-lt, zero-lt-suc, add-mul, le_antisymm, lt_of_mul-lt-mul_right, mul-pos, one-mul, div-add-mod', zero-mul, mul_right_comm, arith, le→leb, ltb-false}
-use mathlib.Core.Option.{Option, none, some}
+use Rattle.std.specs.Prelude.{Option, Some, None}
 use lib.Arith.{digits_div, digits_mod}
 use lib.Signed.{le_z_yes}
 use lib.Ieee.{Float, nan, inf, fin, binary32, up, down, lt, of_bits}
@@ -101,17 +101,17 @@ module _ (tie : ℕ → ℕ) (R : Rule tie) (n d : ℕ) (D : 0 < d) where
 abbrev sized : Ties → ℕ → Float → ℕ
 sized t k x = nearest_to (at_half t (sign_of x)) (num x * k) (den x)
 
-never : {z : ℤ} → ◌≡◌ {A = Option ℤ} none (some z) → ⊥
+never : {z : ℤ} → ◌≡◌ {A = Option ℤ} None (Some z) → ⊥
 never e = let y : ◌≡◌ {A = ℕ} 0 1 = cc in omega arith
 
-whole_is : (t : Ties) (k : ℕ) (x : Float) (z : ℤ) → whole_of t k x ≡ some z → z ≡ with_sign (sign_of x) (sized t k x)
+whole_is : (t : Ties) (k : ℕ) (x : Float) (z : ℤ) → whole_of t k x ≡ Some z → z ≡ with_sign (sign_of x) (sized t k x)
 unfolding whole_of
 whole_is t k nan z e = absurd (never e)
 whole_is t k (inf s) z e = absurd (never e)
 whole_is t k (fin s m e) z h = cc
 
 -- It is within a half of the exact value, with its sign, and an exact half goes where the rule says.
-pub whole_correct : (t : Ties) (k : ℕ) (x : Float) (z : ℤ) → whole_of t k x ≡ some z → NearestWhole t (sign_of x) (num x * k) (den x) z
+pub whole_correct : (t : Ties) (k : ℕ) (x : Float) (z : ℤ) → whole_of t k x ≡ Some z → NearestWhole t (sign_of x) (num x * k) (den x) z
 whole_correct t k x z e =
     let tie = at_half t (sign_of x) in
     let R = half_rule t (sign_of x) in
@@ -119,12 +119,12 @@ whole_correct t k x z e =
     record { size = sized t k x; signed = whole_is t k x z e; above = w.0; below = w.1; half = at-half tie R (num x * k) (den x) (den_pos x) }
 
 -- No other whole number is.
-pub whole_unique : (t : Ties) (k : ℕ) (x : Float) (z y : ℤ) → whole_of t k x ≡ some z → NearestWhole t (sign_of x) (num x * k) (den x) y → y ≡ z
+pub whole_unique : (t : Ties) (k : ℕ) (x : Float) (z y : ℤ) → whole_of t k x ≡ Some z → NearestWhole t (sign_of x) (num x * k) (den x) y → y ≡ z
 whole_unique t k x z y e w =
     w.signed ∙ ap (with_sign (sign_of x)) (nearest_unique (at_half t (sign_of x)) (half_rule t (sign_of x)) (num x * k) (den x) (den_pos x) w.size w.above w.below w.half) ∙ sym (whole_is t k x z e)
 
 -- Only an infinity and a NaN have none.
-pub whole_exists : (t : Ties) (k : ℕ) (x : Float) → T (finite x) → (z : ℤ) × (whole_of t k x ≡ some z)
+pub whole_exists : (t : Ties) (k : ℕ) (x : Float) → T (finite x) → (z : ℤ) × (whole_of t k x ≡ Some z)
 unfolding whole_of
 whole_exists t k nan h = absurd h
 whole_exists t k (inf s) h = absurd h
@@ -133,7 +133,7 @@ whole_exists t k (fin s m e) h = (with_sign s (sized t k (fin s m e)), refl)
 -- ---- an exact half, x * k = ±(q + 1 / 2)
 
 -- upward: the greater of the two, whatever the sign
-pub half_up : (k : ℕ) (x : Float) (z : ℤ) (q : ℕ) → whole_of Up k x ≡ some z → 2 * (num x * k) ≡ 2 * (q * den x) + den x → z ≡ cond (sign_of x) (neg_ℤ (pos q)) (pos (q + 1))
+pub half_up : (k : ℕ) (x : Float) (z : ℤ) (q : ℕ) → whole_of Up k x ≡ Some z → 2 * (num x * k) ≡ 2 * (q * den x) + den x → z ≡ cond (sign_of x) (neg_ℤ (pos q)) (pos (q + 1))
 half_up k x z q e h = let w = whole_correct Up k x z e in w.signed ∙ go (sign_of x) w.size (w.half q h)
   where
     go : (s : Bool) (n : ℕ) → n ≡ q + at_half Up s q → with_sign s n ≡ cond s (neg_ℤ (pos q)) (pos (q + 1))
@@ -141,17 +141,17 @@ half_up k x z q e h = let w = whole_correct Up k x z e in w.signed ∙ go (sign_
     go false n l = ap pos l
 
 -- to the even one
-pub half_even : (k : ℕ) (x : Float) (z : ℤ) (q : ℕ) → whole_of Even k x ≡ some z → 2 * (num x * k) ≡ 2 * (q * den x) + den x → nat_abs z % 2 ≡ 0
+pub half_even : (k : ℕ) (x : Float) (z : ℤ) (q : ℕ) → whole_of Even k x ≡ Some z → 2 * (num x * k) ≡ 2 * (q * den x) + den x → nat_abs z % 2 ≡ 0
 half_even k x z q e h = let w = whole_correct Even k x z e in ap (λ (y : ℤ). nat_abs y % 2) w.signed ∙ ap (λ (n : ℕ). n % 2) (size-signed (sign_of x) w.size ∙ w.half q h) ∙ even q
   where
     even : (q : ℕ) → (q + q % 2) % 2 ≡ 0
     even q = omega arith
 
 -- a hair off the half, and a half is for neither rule to decide: what is less than a half away is the one
-pub nearer : (t : Ties) (k : ℕ) (x : Float) (w : ℕ) → T (finite x) → 2 * (num x * k) < 2 * (w * den x) + den x → 2 * (w * den x) < 2 * (num x * k) + den x → whole_of t k x ≡ some (with_sign (sign_of x) w)
+pub nearer : (t : Ties) (k : ℕ) (x : Float) (w : ℕ) → T (finite x) → 2 * (num x * k) < 2 * (w * den x) + den x → 2 * (w * den x) < 2 * (num x * k) + den x → whole_of t k x ≡ Some (with_sign (sign_of x) w)
 nearer t k x w f a b =
     let z = whole_exists t k x f in
-    z.1 ∙ ap some (sym (whole_unique t k x z.0 (with_sign (sign_of x) w) z.1 (record { size = w; signed = refl; above = omega arith; below = omega arith; half = λ q e. absurd (no q e) })))
+    z.1 ∙ ap Some (sym (whole_unique t k x z.0 (with_sign (sign_of x) w) z.1 (record { size = w; signed = refl; above = omega arith; below = omega arith; half = λ q e. absurd (no q e) })))
   where
     no : (q : ℕ) → 2 * (num x * k) ≡ 2 * (q * den x) + den x → ⊥
     no q e = clash q w (lt_of_mul-lt-mul_right (den x) (first (num x * k) (q * den x) (w * den x) (den x) e a)) (lt_of_mul-lt-mul_right (den x) (subst (λ (u : ℕ). w * den x < u) (sym (add-mul q 1 (den x) ∙ ap (λ (y : ℕ). q * den x + y) (one-mul (den x)))) (second (num x * k) (q * den x) (w * den x) (den x) e b)))
@@ -199,10 +199,10 @@ in_order t k false m e true n d h =
     let l = ltb-false 0 (n * up d * down e + m * up e * down d) h in
     rw (nothing t k m e n d false (omega arith), nothing t k n d m e true (omega arith)) (le_z_yes (le→leb 0 0 zero-le))
 
-pub whole_monotone : (t : Ties) (k : ℕ) (x y : Float) (a b : ℤ) → whole_of t k x ≡ some a → whole_of t k y ≡ some b → lt y x ≡ false → a ≤ℤ b
+pub whole_monotone : (t : Ties) (k : ℕ) (x y : Float) (a b : ℤ) → whole_of t k x ≡ Some a → whole_of t k y ≡ Some b → lt y x ≡ false → a ≤ℤ b
 whole_monotone t k x y a b p q h = rw (whole_is t k x a p, whole_is t k y b q) (go x y p q h)
   where
-    go : (x y : Float) → whole_of t k x ≡ some a → whole_of t k y ≡ some b → lt y x ≡ false → with_sign (sign_of x) (sized t k x) ≤ℤ with_sign (sign_of y) (sized t k y)
+    go : (x y : Float) → whole_of t k x ≡ Some a → whole_of t k y ≡ Some b → lt y x ≡ false → with_sign (sign_of x) (sized t k x) ≤ℤ with_sign (sign_of y) (sized t k y)
     go nan y p q h = unfold whole_of in absurd (never p)
     go (inf s) y p q h = unfold whole_of in absurd (never p)
     go (fin s m e) nan p q h = unfold whole_of in absurd (never q)
@@ -212,19 +212,19 @@ whole_monotone t k x y a b p q h = rw (whole_is t k x a p, whole_is t k y b q) (
 -- ---- examples
 
 -- 0.7 is a hair below, times 5: 3 by either rule, where a product of floats would be 3.5
-pub below_half : (whole_of Up 5 (of_bits binary32 0x3f33_3333) ≡ some (pos 3)) × (whole_of Even 5 (of_bits binary32 0x3f33_3333) ≡ some (pos 3))
+pub below_half : (whole_of Up 5 (of_bits binary32 0x3f33_3333) ≡ Some (pos 3)) × (whole_of Even 5 (of_bits binary32 0x3f33_3333) ≡ Some (pos 3))
 unfolding whole_of nearest_to of_bits
 below_half = (refl, refl)
 
 -- 2.5, and -2.5; 3.5
 pub at_halves :
-    (whole_of Up 5 (of_bits binary32 0x3f00_0000) ≡ some (pos 3)) × (whole_of Up 5 (of_bits binary32 0xbf00_0000) ≡ some (negsuc 1)) × (whole_of Even 5 (of_bits binary32 0x3f00_0000) ≡ some (pos 2))
-    × (whole_of Even 5 (of_bits binary32 0xbf00_0000) ≡ some (negsuc 1))
-    × (whole_of Even 7 (of_bits binary32 0x3f00_0000) ≡ some (pos 4))
+    (whole_of Up 5 (of_bits binary32 0x3f00_0000) ≡ Some (pos 3)) × (whole_of Up 5 (of_bits binary32 0xbf00_0000) ≡ Some (negsuc 1)) × (whole_of Even 5 (of_bits binary32 0x3f00_0000) ≡ Some (pos 2))
+    × (whole_of Even 5 (of_bits binary32 0xbf00_0000) ≡ Some (negsuc 1))
+    × (whole_of Even 7 (of_bits binary32 0x3f00_0000) ≡ Some (pos 4))
 unfolding whole_of nearest_to of_bits
 at_halves = (refl, refl, refl, refl, refl)
 
 -- the least float, times the largest u32; a zero below zero
-pub small : (whole_of Up 4_294_967_295 (of_bits binary32 1) ≡ some (pos 0)) × (whole_of Up 1 (of_bits binary32 0x8000_0000) ≡ some (pos 0))
+pub small : (whole_of Up 4_294_967_295 (of_bits binary32 1) ≡ Some (pos 0)) × (whole_of Up 1 (of_bits binary32 0x8000_0000) ≡ Some (pos 0))
 unfolding whole_of nearest_to of_bits
 small = (refl, refl)

@@ -1,13 +1,10 @@
 -- The whole number nearest to a fraction, and to a float times a whole number. Where an exact half goes is a parameter. Definitions only.
-use Rattle.std.specs.Prelude.{◌≡◌, ℕ, ◌+◌, ◌*◌, ◌/◌, ◌%◌, ◌^◌, ◌≤◌, Bool, false, cond, ℤ, pos, neg_ℤ, nat_lt, unsigned_abs, Float}
+use Rattle.std.specs.Prelude.{◌≡◌, ℕ, ◌+◌, ◌*◌, ◌/◌, ◌%◌, ◌^◌, ◌≤◌, Bool, false, cond, Option, Some, None, ℤ, pos, neg_ℤ, nat_lt, unsigned_abs, Float}
 use Prim.Native.Nat.{compare, Ordering}
-use Rattle.std.proofs.Math.Option.{Option, none, some}
 use Rattle.std.specs.Float.{nan, inf, fin}
 use Rattle.std.specs.Float.Ieee.{up, down}
 use Rattle.float.specs.declared.rounding.Ties.{Ties}
 use Rattle.float.specs.declared.rounding.Ties.TheVariants.{Up, Even}
-use Rattle.float.specs.declared.rounding.Rounded.{Rounded}
-use Rattle.float.specs.declared.rounding.Rounded.TheVariants.{Whole, Beyond}
 
 -- ---- a fraction
 
@@ -40,20 +37,20 @@ sign_of (fin s m e) = s
 
 -- The whole number nearest to the exact value of x times k: x is m * 2 ^ e, which is the fraction m * up e / down e, with a sign. An infinity and a NaN have none.
 unfoldable pub whole_of : Ties → ℕ → Float → Option ℤ
-whole_of ties k nan = none
-whole_of ties k (inf s) = none
-whole_of ties k (fin s m e) = some (with_sign s (nearest_to (at_half ties s) (m * up e * k) (down e)))
+whole_of ties k nan = None
+whole_of ties k (inf s) = None
+whole_of ties k (fin s m e) = Some (with_sign s (nearest_to (at_half ties s) (m * up e * k) (down e)))
 
 -- ---- what `round_product` gives: its size, where a u32 holds it
 
-abbrev pub size_held : ℕ → Rounded
-size_held n = cond (nat_lt n (2 ^ 32)) (Whole n) Beyond
+abbrev pub size_held : ℕ → Option ℕ
+size_held n = cond (nat_lt n (2 ^ 32)) (Some n) None
 
-abbrev pub held : Option ℤ → Rounded
-held none = Beyond
-held (some z) = size_held (unsigned_abs z)
+abbrev pub held : Option ℤ → Option ℕ
+held None = None
+held (Some z) = size_held (unsigned_abs z)
 
-unfoldable pub product_of : Ties → ℕ → Float → Rounded
+unfoldable pub product_of : Ties → ℕ → Float → Option ℕ
 product_of ties k x = held (whole_of ties k x)
 
 -- ---- what makes z the whole number nearest to n / d with the sign s, by a tie rule

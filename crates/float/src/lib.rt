@@ -12,30 +12,26 @@ ghost use Rattle.float.specs.Root.{sqrt_of};
 mod rounding;
 
 use rounding::shift_nearest;
-pub use rounding::{Rounded, Ties, round_product};
+pub use rounding::{Ties, round_product};
 
 // The value with the bits b. Every pattern of a NaN gives a NaN.
 pub fn of_bits(b: u32) -> f32
     ensures { result ≡ from_bits binary32 b }
 {
-    if 0x7f80_0000 < b % 0x8000_0000 {
-        return 0.0 / 0.0;
-    }
-    f32::from_bits(b)
+    std::num::f32_from_bits_with_nan(b)
 }
 
 // The bits of x. A NaN has the bits 7fc00000, whatever it was made of.
 pub fn to_bits(x: f32) -> u32
     ensures { result ≡ to_bits binary32 x }
 {
-    if x != x {
-        return 0x7fc0_0000;
-    }
-    f32::to_bits(x)
+    std::num::f32_to_bits_with_nan(x)
 }
 
 // x without its sign: -0.0 gives 0.0, and a NaN a NaN. It is the greater of x and 0.0 - x, which
-// compiles to no jump: the sign would often be mispredicted.
+// compiles to no jump: the sign would often be mispredicted. By the library's abs, which tests the
+// sign, a hit takes a third more time.
+#[tactic(auto, using(crate::proofs::Opposite::greater, crate::proofs::Opposite::not_greater))]
 pub fn abs(x: f32) -> f32
     ensures { result ≡ abs_of x }
 {
@@ -43,30 +39,22 @@ pub fn abs(x: f32) -> f32
     if opposite < x { x } else { opposite }
 }
 
-// The larger of the two. Where one is a NaN it is the other, and of equal values it is the first.
+// The larger of the two. Where one is a NaN it is the other, and of equal values it is the first: the
+// library's max does not say which, so that a zero's sign would be open.
+#[tactic(auto, unfolding(crate::specs::Basic::max_of))]
 pub fn max(a: f32, b: f32) -> f32
     ensures { result ≡ max_of a b }
 {
-    if a != a {
-        b
-    } else if a < b {
-        b
-    } else {
-        a
-    }
+    if a.is_nan() || a < b { b } else { a }
 }
 
-// The smaller of the two. Where one is a NaN it is the other, and of equal values it is the first.
+// The smaller of the two. Where one is a NaN it is the other, and of equal values it is the first: the
+// library's min does not say which, so that a zero's sign would be open.
+#[tactic(auto, unfolding(crate::specs::Basic::min_of))]
 pub fn min(a: f32, b: f32) -> f32
     ensures { result ≡ min_of a b }
 {
-    if a != a {
-        b
-    } else if b < a {
-        b
-    } else {
-        a
-    }
+    if a.is_nan() || b < a { b } else { a }
 }
 
 // x at the wider format, which holds every f32. A NaN gives a NaN.
@@ -76,14 +64,15 @@ pub fn widen(x: f32) -> f64
     std::num::f32_to_f64_with_nan(x)
 }
 
-// x at the narrower format, rounded to the nearest value, and at a tie to the even one.
+// x at the narrower format, rounded to the nearest value, and at a tie to the even one. The library's
+// rounding to f32 takes longer: a beam that is thrown out whole takes a sixth more instructions by it.
 pub fn narrow(x: f64) -> f32
     ensures { result ≡ narrow_of x }
 {
-    if x != x {
-        return 0.0 / 0.0;
+    if x.is_nan() {
+        return f32::NAN;
     }
-    let bits: u64 = f64::to_bits(x);
+    let bits = x.to_bits();
     let sign = (bits >> 63) << 31;
     let magnitude = bits % 0x8000_0000_0000_0000;
     let exponent = magnitude >> 52;
@@ -98,6 +87,7 @@ pub fn narrow(x: f64) -> f32
 }
 
 // The rounded pattern of `narrow` for what is no normal value of f32, by its pattern, without signs.
+#[tactic(auto, using(crate::proofs::Narrowing::rest_zero, crate::proofs::Narrowing::rest_subnormal, crate::proofs::Narrowing::rest_infinite))]
 fn narrow_rest(magnitude: u64) -> u64
     ensures { result ≡ narrow_rest magnitude }
 {

@@ -5,17 +5,10 @@ ghost use Rattle.float.specs.Narrow.{spare};
 ghost use Rattle.float.specs.Whole.{at_half, nearest_to, size_held, product_of};
 
 // Where an exact half goes: to the greater whole number, or to the even one.
-#[derive(Clone, Copy)]
+#[derive(Clone, Copy, Debug, PartialEq, Eq, Hash)]
 pub enum Ties {
     Up,
     Even,
-}
-
-// The size of a whole number, where a u32 holds it.
-#[derive(Clone, Copy)]
-pub enum Rounded {
-    Whole(u32),
-    Beyond,
 }
 
 // What an exact half adds to the size q of a number with a sign: below zero the greater number is the one
@@ -53,20 +46,16 @@ pub fn shift_nearest(m: u64, s: u64) -> u64
 }
 
 // n, where a u32 holds it.
-fn hold(n: u64) -> Rounded
+fn hold(n: u64) -> Option<u32>
     ensures { result ≡ size_held n }
 {
-    if n < 0x1_0000_0000 {
-        Rounded::Whole(n as u32)
-    } else {
-        Rounded::Beyond
-    }
+    u32::try_from(n).ok()
 }
 
 // The whole number nearest to x times k, by its size: its sign is that of x. The product is exact, of whole
 // numbers: 24 digits and 32 make 56, and the field of the exponent says how far they are shifted. An infinity
 // and a NaN are beyond every number.
-pub fn round_product(x: f32, k: u32, ties: Ties) -> Rounded
+pub fn round_product(x: f32, k: u32, ties: Ties) -> Option<u32>
     ensures { result ≡ product_of ties k x }
 {
     let bits = crate::to_bits(x);
@@ -74,7 +63,7 @@ pub fn round_product(x: f32, k: u32, ties: Ties) -> Rounded
     let product = (bits % 0x80_0000 + 0x80_0000) as u64 * k as u64;
     match exponent {
         // less than a half
-        0..=93 => Rounded::Whole(0),
+        0..=93 => Some(0),
         94..=149 => {
             let s = 150 - exponent;
             let tie = at_half(ties, 0x8000_0000 <= bits, product >> s);
@@ -83,13 +72,7 @@ pub fn round_product(x: f32, k: u32, ties: Ties) -> Rounded
         // x is a whole number
         150..=158 => hold(product << (exponent - 150)),
         // the digits alone are more than a u32 holds
-        159..=254 => {
-            if product == 0 {
-                Rounded::Whole(0)
-            } else {
-                Rounded::Beyond
-            }
-        }
-        _ => Rounded::Beyond,
+        159..=254 if product == 0 => Some(0),
+        _ => None,
     }
 }
