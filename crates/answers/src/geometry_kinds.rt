@@ -1,7 +1,7 @@
 // The library's answers of floats and vectors. Each function answers how many words it put.
 use crate::places::{FACTOR, HIGH, LOW, TIES_EVEN, V1, V2, X};
 use crate::put::{DONE, put_status, put_vector};
-use float::{Rounded, Ties};
+use float::Ties;
 use geometry::{CoordinateSystem, Divided, vector_from};
 use lines::{Floats, Out, Words, put_floats, put_word};
 
@@ -25,13 +25,13 @@ pub fn narrow(words: &Words, out: &mut Out) -> usize {
 // The status of a product that a u32 does not hold.
 const BEYOND: u8 = 1;
 
-fn put_rounded(out: &mut Out, r: Rounded) -> usize {
+fn put_rounded(out: &mut Out, r: Option<u32>) -> usize {
     match r {
-        Rounded::Whole(n) => {
+        Some(n) => {
             let at = put_status(out, DONE);
             put_word(out, at, n)
         }
-        Rounded::Beyond => put_status(out, BEYOND),
+        None => put_status(out, BEYOND),
     }
 }
 

@@ -2,7 +2,6 @@
 use mathlib.Core.Bool.{Bool, true, false, cond}
 use mathlib.Core.List.{List}
 use mathlib.Core.Logic.{⊎_elim}
-use mathlib.Core.Option.{Option, none, some}
 use mathlib.Core.Path.{◌≡◌, refl, sym, ap, ◌∙◌}
 use Prim.Native.Nat.{ℕ, zero, suc, ◌/◌, ◌≤◌}
 use native.Mathlib.Omega.{arith}
@@ -12,6 +11,7 @@ use lib.Ieee.{Float}
 use lib.ListN.{length}
 use Rattle.float.specs.declared.rounding.Ties.TheVariants.{Up}
 use Rattle.float.specs.Whole.{whole_of}
+use Rattle.std.specs.Prelude.{Option, Some, None}
 use Rattle.geometry.specs.declared.bounds.Bounds3f.{Bounds3f}
 use Rattle.geometry.specs.declared.ray.Ray.{Ray}
 use Rattle.matrix.specs.declared.Matrix4x4.{Matrix4x4}
@@ -90,8 +90,8 @@ price-answers l rate = go (first_of (price_refusals l rate)) (whole_of Up rate (
     pick false n e = refl
 
     answered : (o : Option ℤ) → price_number (priced o) ≡ 0 → (n : ℕ) × (priced o ≡ price.Cents n)
-    answered none e = absurd (omega (arith, e))
-    answered (some z) e = (nat_abs z, pick (ltb most_cents (nat_abs z)) (nat_abs z) e)
+    answered None e = absurd (omega (arith, e))
+    answered (Some z) e = (nat_abs z, pick (ltb most_cents (nat_abs z)) (nat_abs z) e)
 
     go : (k : ℕ) (o : Option ℤ) → price_number (told price.Refused k (priced o)) ≡ 0 → (n : ℕ) × (told price.Refused k (priced o) ≡ price.Cents n)
     go zero o e = answered o e

@@ -1,6 +1,5 @@
 -- The price of a curve's area, in cents. Definitions only.
-use Rattle.std.specs.Prelude.{ℕ, not, cond, List, [], ◌∷◌, ltb, ℤ, nat_abs, Float}
-use Rattle.std.proofs.Math.Option.{Option, none, some}
+use Rattle.std.specs.Prelude.{ℕ, not, cond, Option, Some, None, List, [], ◌∷◌, ltb, ℤ, nat_abs, Float}
 use Rattle.float.specs.declared.rounding.Ties.TheVariants.{Up}
 use Rattle.float.specs.Whole.{whole_of}
 use Rattle.limits.specs.Refusal.{Table, first_of, told}
@@ -19,8 +18,8 @@ most_cents = 1_000_000_000
 
 -- The rounded price, if it is one: 21 is asked of it, and of an area that is an infinity or a NaN. An area has no sign (`area_unsigned`), so it is told by its size.
 abbrev pub priced : Option ℤ → Priced
-priced none = Refused 21
-priced (some z) = cond (ltb most_cents (nat_abs z)) (Refused 21) (Cents (nat_abs z))
+priced None = Refused 21
+priced (Some z) = cond (ltb most_cents (nat_abs z)) (Refused 21) (Cents (nat_abs z))
 
 -- the exact value of the area times the rate, to the nearest cent, a half upward
 unfoldable pub price_of : Float → ℕ → Priced

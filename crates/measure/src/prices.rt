@@ -5,7 +5,7 @@ ghost use Rattle.measure.specs.Price.{price_of, price_in};
 use crate::areas::mean_width;
 use bezier::chords;
 use curve::{control_points, is_curve};
-use float::{Rounded, Ties};
+use float::Ties;
 
 // In cents for a unit of area.
 const MOST_RATE: u32 = 1_000_000;
@@ -23,14 +23,14 @@ fn price_of(area: f32, rate: u32) -> Priced
     ensures { result ≡ price_of area rate }
 {
     match float::round_product(area, rate, Ties::Up) {
-        Rounded::Whole(cents) => {
+        Some(cents) => {
             if MOST_CENTS < cents {
                 Priced::Refused(21)
             } else {
                 Priced::Cents(cents)
             }
         }
-        Rounded::Beyond => Priced::Refused(21),
+        None => Priced::Refused(21),
     }
 }
 
