@@ -7,17 +7,13 @@ use Rattle.tally.specs.declared.Tally.{Tally}
 use Rattle.tally.specs.Tally.{most_rays, sum_of, can_grow}
 
 pub grows_means : (t : Tally) → can_grow t ≡ true → (t.rays < most_rays) × (t.rays ≡ sum_of t)
-unfolding can_grow
 grows_means t h = let p = (and-eq-true_iff _ _).0 h in (ltb-true _ _ p.0, eqb-true _ _ p.1)
 
 pub can_grow_lem : (t : Tally) → t.rays < most_rays → t.rays ≡ sum_of t → can_grow t ≡ true
-unfolding can_grow
 can_grow_lem t l e = rw (lt-ltb t.rays most_rays l, eq-eqb t.rays (sum_of t) e)
 
 pub stays_at_limit : (t : Tally) → most_rays ≤ t.rays → can_grow t ≡ false
-unfolding can_grow
 stays_at_limit t l = rw (le-ltb t.rays most_rays l)
 
 pub stays_off_sum : (t : Tally) → (t.rays ≡ sum_of t → ⊥) → can_grow t ≡ false
-unfolding can_grow
 stays_off_sum t d = rw (ne_eqb t.rays (sum_of t) d, and-false)

@@ -12,39 +12,34 @@ use lib.ListN.{length, length-map}
 use Rattle.tally.specs.declared.Tally.{Tally}
 use Rattle.tally.specs.declared.Kind.{Kind}
 use Rattle.tally.specs.declared.Kind.TheVariants.{Hit, Miss, Refusal}
-use Rattle.tally.specs.Tally.{kind_of, number_of, one_if, most_rays, sum_of, can_grow, grown, after, counters_of, tally_of, counters_after, tallied, counters_tallied, zeros, counter_of, count_of}
+use Rattle.tally.specs.Tally.{kind_of, number_of, one_if, most_rays, sum_of, can_grow, after, counters_of, tally_of, counters_after, tallied, counters_tallied, zeros, counter_of, count_of}
 use Rattle.tally.proofs.Grows.{can_grow_lem, stays_at_limit, stays_off_sum}
 
 -- a yes
 
 pub yes_rays : (k : Kind) (t : Tally) → can_grow t ≡ true → (after k t).rays ≡ t.rays + 1
-unfolding after grown
 yes_rays k t h = rw h
 
 yes_counter : (j k : Kind) (t : Tally) → can_grow t ≡ true → counter_of j (after k t) ≡ counter_of j t + one_if j k
-unfolding after grown counter_of
+unfolding counter_of
 yes_counter Hit k t h = rw h
 yes_counter Miss k t h = rw h
 yes_counter Refusal k t h = rw h
 
 pub yes_own_counter : (k : Kind) (t : Tally) → can_grow t ≡ true → counter_of k (after k t) ≡ counter_of k t + 1
-unfolding one_if
 yes_own_counter k t h = yes_counter k k t h ∙ rw (eq-eqb (number_of k) (number_of k) refl)
 
 kind_of_number : (k : Kind) → kind_of (number_of k) ≡ k
-unfolding kind_of number_of
 kind_of_number Hit = refl
 kind_of_number Miss = refl
 kind_of_number Refusal = refl
 
 pub yes_other_counter : (j k : Kind) (t : Tally) → can_grow t ≡ true → (j ≡ k → ⊥) → counter_of j (after k t) ≡ counter_of j t
-unfolding one_if
 yes_other_counter j k t h differ = yes_counter j k t h ∙ rw (ne_eqb (number_of j) (number_of k) (λ e. differ (cc (ap kind_of e, kind_of_number j, kind_of_number k))), add-zero)
 
 -- a no
 
 pub no_stays : (k : Kind) (t : Tally) → can_grow t ≡ false → after k t ≡ t
-unfolding after
 no_stays k t h = rw h
 
 pub no_at_limit : (k : Kind) (t : Tally) → most_rays ≤ t.rays → (can_grow t ≡ false) × (after k t ≡ t)
@@ -60,13 +55,11 @@ record After (t : Tally) (ks : List Kind) : Type 0 where
   sum_is : (tallied ks t).rays ≡ sum_of (tallied ks t)
 
 one_in_all : (k : Kind) → one_if Hit k + one_if Miss k + one_if Refusal k ≡ 1
-unfolding one_if number_of
 one_in_all Hit = refl
 one_in_all Miss = refl
 one_in_all Refusal = refl
 
 sum-after : (k : Kind) (t : Tally) → can_grow t ≡ true → sum_of (after k t) ≡ sum_of t + 1
-unfolding after grown
 sum-after k t h = rw h (omega (arith, one_in_all k))
 
 after_list : (ks : List Kind) (t : Tally) → t.rays ≡ sum_of t → t.rays + length ks ≤ most_rays → After t ks
@@ -86,7 +79,7 @@ after_list (k ∷ ks) t e l =
 from-zeros : (ks : List Kind) → length ks ≤ most_rays → After zeros ks
 from-zeros ks l = after_list ks zeros refl (rw zero-add l)
 
--- 02's laws
+-- from zeros
 
 pub rays_are_length : (ks : List Kind) → length ks ≤ most_rays → (tallied ks zeros).rays ≡ length ks
 rays_are_length ks l = omega (arith, (from-zeros ks l).rays_are)
@@ -107,7 +100,7 @@ each_says_yes ks l = can_grow_lem _ (omega (arith, rays_are_length ks (omega ari
 -- the same of the counters in an array
 
 tallied_counters : (ss : List ℕ) (t : Tally) → counters_tallied ss (counters_of t) ≡ counters_of (tallied (map kind_of ss) t)
-unfolding counters_tallied counters_after tallied
+unfolding counters_tallied tallied
 tallied_counters [] t = refl
 tallied_counters (s ∷ ss) t = tallied_counters ss (after (kind_of s) t)
 
@@ -130,5 +123,4 @@ four (a ∷ b ∷ c ∷ d ∷ []) n = refl
 four (a ∷ b ∷ c ∷ d ∷ e ∷ l) n = absurd (omega arith)
 
 pub no_leaves_counters : (status : ℕ) (l : List ℕ) → length l ≡ 4 → can_grow (tally_of l) ≡ false → counters_after status l ≡ l
-unfolding counters_after
 no_leaves_counters status l n h = ap counters_of (no_stays (kind_of status) (tally_of l) h) ∙ four l n

@@ -1,21 +1,33 @@
 // How many rays were answered, and how. A tally grows by one ray at a time up to a limit that 32 bits hold.
 #![tactic(auto)]
 
-ghost use Rattle.std.specs.Prelude.{true, ◌≡◌};
-ghost use Rattle.tally.specs.Tally.{kind_of, sum_of, can_grow, grown, after, tally_of, counters_after};
+ghost use Rattle.std.specs.Prelude.{true, ◌≡◌, is_some, unwrap_or};
+ghost use Rattle.tally.specs.Tally.{kind_of, sum_of, can_grow, grown, after, counters_of, tally_of, counters_after};
 
 // A tally with as many rays counts no more.
 pub const MOST_RAYS: u32 = 4_000_000_000;
 
-#[derive(Clone, Copy)]
+#[derive(Clone, Copy, Debug, PartialEq, Eq, Hash)]
 pub enum Kind {
     Hit,
     Miss,
     Refusal,
 }
 
-// 02: the tally of beams, hits, misses and refusals.
-#[derive(Clone, Copy)]
+// The kind of an answer from the number that curve_intersect returned.
+impl From<u32> for Kind {
+    ghost from_gives = { λ status kind. kind ≡ kind_of status };
+
+    fn from(status: u32) -> Kind {
+        match status {
+            0 => Kind::Hit,
+            1 => Kind::Miss,
+            _ => Kind::Refusal,
+        }
+    }
+}
+
+#[derive(Clone, Copy, Debug, PartialEq, Eq, Hash, Default)]
 pub struct Tally {
     pub rays: u32,
     pub hits: u32,
@@ -23,21 +35,25 @@ pub struct Tally {
     pub refusals: u32,
 }
 
-// Whether an answer is counted, and the tally afterwards.
-#[derive(Clone, Copy)]
-pub struct Counted {
-    pub yes: bool,
-    pub tally: Tally,
+// Callers in C have the counters in an array, in that order.
+impl From<[u32; 4]> for Tally {
+    ghost from_gives = { λ counters tally. tally ≡ tally_of counters };
+
+    fn from([rays, hits, misses, refusals]: [u32; 4]) -> Tally {
+        Tally {
+            rays,
+            hits,
+            misses,
+            refusals,
+        }
+    }
 }
 
-// The kind of an answer from the number that curve_intersect returned.
-pub fn kind_of(status: u32) -> Kind
-    ensures { result ≡ kind_of status }
-{
-    match status {
-        0 => Kind::Hit,
-        1 => Kind::Miss,
-        _ => Kind::Refusal,
+impl From<Tally> for [u32; 4] {
+    ghost from_gives = { λ tally counters. counters ≡ counters_of tally };
+
+    fn from(tally: Tally) -> [u32; 4] {
+        [tally.rays, tally.hits, tally.misses, tally.refusals]
     }
 }
 
@@ -46,80 +62,55 @@ impl Tally {
     fn sum(self) -> u64
         ensures { result ≡ sum_of self }
     {
-        self.hits as u64 + self.misses as u64 + self.refusals as u64
+        u64::from(self.hits) + u64::from(self.misses) + u64::from(self.refusals)
     }
 
     // Whether one more answer is counted, of whatever kind.
     fn can_grow(self) -> bool
         ensures { result ≡ can_grow self }
     {
-        (self.rays < MOST_RAYS) & (self.rays as u64 == self.sum())
+        self.rays < MOST_RAYS && u64::from(self.rays) == self.sum()
     }
 
-    fn grown(self, kind: Kind) -> Tally
+    fn grown(mut self, kind: Kind) -> Tally
         requires { can_grow self ≡ true }
         ensures { result ≡ grown kind self }
     {
-        let mut t = self;
-        t.rays += 1;
+        self.rays += 1;
         match kind {
-            Kind::Hit => t.hits += 1,
-            Kind::Miss => t.misses += 1,
-            Kind::Refusal => t.refusals += 1,
+            Kind::Hit => self.hits += 1,
+            Kind::Miss => self.misses += 1,
+            Kind::Refusal => self.refusals += 1,
         }
-        t
+        self
     }
 
-    pub fn counted(self, kind: Kind) -> Counted
-        ensures answer { result.yes ≡ can_grow self }
-        ensures state { result.tally ≡ after kind self }
+    // The tally with one more answer, where it is counted.
+    pub fn counted(self, kind: Kind) -> Option<Tally>
+        ensures answer { is_some result ≡ can_grow self }
+        ensures state { unwrap_or result self ≡ after kind self }
     {
-        if self.can_grow() {
-            Counted {
-                yes: true,
-                tally: self.grown(kind),
-            }
-        } else {
-            Counted {
-                yes: false,
-                tally: self,
-            }
-        }
+        self.can_grow().then(|| self.grown(kind))
+    }
+
+    // Counts an answer: true where it is counted.
+    pub fn add(&mut self, kind: Kind) -> bool
+        ensures answer { result ≡ can_grow self.old }
+        ensures state { self.new ≡ after kind self.old }
+    {
+        let counted = self.counted(kind);
+        *self = counted.unwrap_or(*self);
+        counted.is_some()
     }
 }
 
-// Counts an answer in a tally that the caller lends: true where it is counted.
-pub fn add(tally: &mut Tally, kind: Kind) -> bool
-    ensures answer { result ≡ can_grow tally.old }
-    ensures state { tally.new ≡ after kind tally.old }
-{
-    let counted = (*tally).counted(kind);
-    *tally = counted.tally;
-    counted.yes
-}
-
-// The tally is lent here, so that callers need not make a reference to a struct.
-fn added(mut tally: Tally, kind: Kind) -> Counted
-    ensures answer { result.yes ≡ can_grow tally }
-    ensures state { result.tally ≡ after kind tally }
-{
-    let yes = add(&mut tally, kind);
-    Counted { yes, tally }
-}
-
-// For callers with the counters in an array (rays, hits, misses, refusals) and the number that curve_intersect returned.
+// For callers with the counters in an array and the number that curve_intersect returned.
 pub fn add_status(counters: &mut [u32; 4], status: u32) -> bool
     ensures answer { result ≡ can_grow (tally_of counters.old) }
     ensures state { counters.new ≡ counters_after status counters.old }
 {
-    let tally = Tally {
-        rays: counters[0],
-        hits: counters[1],
-        misses: counters[2],
-        refusals: counters[3],
-    };
-    let counted = added(tally, kind_of(status));
-    let t = counted.tally;
-    *counters = [t.rays, t.hits, t.misses, t.refusals];
-    counted.yes
+    let mut tally = Tally::from(*counters);
+    let is_counted = tally.add(Kind::from(status));
+    *counters = tally.into();
+    is_counted
 }
