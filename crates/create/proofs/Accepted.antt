@@ -14,8 +14,9 @@ use Rattle.create.specs.Basis.{stride_of}
 use Rattle.curve.specs.Layout.{floats}
 use Rattle.limits.specs.Within.{width_within}
 use Rattle.create.specs.Create.{divisible, count_wrong, segment_count, part_count, curve_count, neighbours_differ, all_within, least_width, greatest_width, limit_wrong, limit_refusals, create_refusals}
-use Rattle.limits.specs.Refusal.{first_of}
-use Rattle.limits.proofs.Refusals.{passed}
+use Rattle.std.specs.Prelude.{None}
+use Rattle.limits.specs.Refused.{first_of}
+use Rattle.limits.proofs.Told.{passed}
 use Rattle.create.specs.declared.create.Params.{Params}
 use Rattle.create.proofs.Counts.{segment-count-le}
 use Rattle.create.proofs.Divisible.{unsigned}
@@ -79,18 +80,18 @@ pub record Accepted (l : List Float) (p : Params) (room : ℕ) : Type 0 where
   pub width1 : width_within p.width1 least_width greatest_width ≡ true
   pub list : floats * (segment_count (length l / 3) p.degree p.basis * part_count p.splitdepth) ≤ room
 
-pub accepted : (l : List Float) (p : Params) (room : ℕ) → first_of (create_refusals l p room) ≡ 0 → Accepted l p room
+pub accepted : (l : List Float) (p : Params) (room : ℕ) → first_of (create_refusals l p room) ≡ None → Accepted l p room
 unfolding create_refusals limit_refusals limit_wrong curve_count
 accepted l p room e =
-    let r1 = passed _ 0 _ e in
-    let r2 = passed _ 1 _ r1.1 in
-    let r3 = passed _ 2 _ r2.1 in
-    let r22 = passed _ 21 _ r3.1 in
-    let r4 = passed _ 3 _ r22.1 in
-    let r5 = passed _ 4 _ r4.1 in
-    let r6 = passed _ 5 _ r5.1 in
-    let r7 = passed _ 6 _ r6.1 in
-    let r8 = passed _ 7 _ r7.1 in
+    let r1 = passed _ _ _ e in
+    let r2 = passed _ _ _ r1.1 in
+    let r3 = passed _ _ _ r2.1 in
+    let r22 = passed _ _ _ r3.1 in
+    let r4 = passed _ _ _ r22.1 in
+    let r5 = passed _ _ _ r4.1 in
+    let r6 = passed _ _ _ r5.1 in
+    let r7 = passed _ _ _ r6.1 in
+    let r8 = passed _ _ _ r7.1 in
     let widths = (and-eq-true_iff _ _).0 (not-false _ r7.0) in
     let coordinates = (and-eq-true_iff _ _).0 widths.0 in
     let d = degree_of p.degree _ _ refl refl (not-false _ r1.0) in

@@ -14,9 +14,9 @@ use lib.Ieee.{Float, binary32}
 use Rattle.float.proofs.Bound.{quotient_weight}
 use Rattle.curve.specs.declared.curve.Curve.{Curve}
 use Rattle.create.specs.declared.create.Params.{Params}
-use Rattle.create.specs.declared.create.Created.TheVariants.{Curves}
 use Rattle.limits.specs.List.{over, up_to}
-use Rattle.limits.specs.Refusal.{first_of}
+use Rattle.std.specs.Prelude.{Ok, None}
+use Rattle.limits.specs.Refused.{first_of}
 use Rattle.curve.specs.Layout.{floats, curve_floats}
 use Rattle.limits.specs.Within.{width_within}
 use Rattle.curve.specs.Curve.{narrowest, widest, in_limits, is_curve}
@@ -24,7 +24,7 @@ use Rattle.create.specs.Basis.{stride_of, segment_at}
 use Rattle.create.specs.Create.{segment_count, part_count, curve_count, create_refusals, ratio, part_of, end_width, part_floats, segment_floats, created_floats, created_of, list_after}
 use Rattle.create.proofs.Accepted.{Accepted, accepted}
 use Rattle.create.proofs.Counts.{within-points}
-use Rattle.create.proofs.CreatedLemmas.{answered_zero}
+use Rattle.limits.proofs.Told.{told-ok}
 use Rattle.curve.proofs.Records.{length-floats, is_curve_within}
 use Rattle.create.proofs.Lengths.{length-segment}
 use Rattle.create.proofs.Limits.{segment-within, width_lerp, umin_umax}
@@ -47,7 +47,7 @@ curve_of l p seg i =
     part_of cp (end_width p (segments l p) seg) (end_width p (segments l p) (seg + 1)) (parts p) i
 
 -- it is within 9's limits
-pub curve_passes : (l : List Float) (p : Params) (room : ℕ) → first_of (create_refusals l p room) ≡ 0 → (seg i : ℕ) → seg < segments l p → i < parts p → in_limits (curve_of l p seg i) ≡ true
+pub curve_passes : (l : List Float) (p : Params) (room : ℕ) → first_of (create_refusals l p room) ≡ None → (seg i : ℕ) → seg < segments l p → i < parts p → in_limits (curve_of l p seg i) ≡ true
 unfolding in_limits part_of
 curve_passes l p room e seg i h g =
     let points = segment-within l known.inside p.degree p.basis (seg * stride_of p.degree p.basis) known.degree-low known.degree-high (within-points seg (segments l p) _ _ _ h known.points) in
@@ -62,7 +62,7 @@ curve_passes l p room e seg i h g =
 
 -- ---- the list afterwards
 
-module _ (l : List Float) (p : Params) (list : List Float) (e : first_of (create_refusals l p (length list)) ≡ 0) where
+module _ (l : List Float) (p : Params) (list : List Float) (e : first_of (create_refusals l p (length list)) ≡ None) where
   after : list_after l p list ≡ up_to (segment_floats l p (segments l p)) (segments l p) ++ drop (0 + length (created_floats l p (segments l p))) list
   unfolding list_after over created_floats
   after = rw e
@@ -79,7 +79,7 @@ module _ (l : List Float) (p : Params) (list : List Float) (e : first_of (create
       place seg parts i = mul_comm floats (seg * parts + i) ∙ add-mul (seg * parts) i floats ∙ ap (λ (x : ℕ). x + i * floats) (mul_assoc seg parts floats)
 
 -- Where no row of the table holds, each of the records in the list afterwards passes refusal 9
-pub created_passes : (l : List Float) (p : Params) (list : List Float) → first_of (create_refusals l p (length list)) ≡ 0 → (k : ℕ) → k < curve_count (length l / 3) p
+pub created_passes : (l : List Float) (p : Params) (list : List Float) → first_of (create_refusals l p (length list)) ≡ None → (k : ℕ) → k < curve_count (length l / 3) p
     → is_curve (take floats (drop (floats * k) (list_after l p list))) ≡ true
 unfolding curve_count
 created_passes l p list e k h =
@@ -89,6 +89,6 @@ created_passes l p list e k h =
     rw (← div-add-mod' k (parts p), created_at l p list e (k / parts p) (k % parts p) s i, is_curve_within) (curve_passes l p (length list) e (k / parts p) (k % parts p) s i)
 
 -- the same for a caller: where it answers n curves, the first n records of the list pass
-pub answered_passes : (l : List Float) (p : Params) (list : List Float) (n : ℕ) → created_of l p (length list) ≡ Curves n → (k : ℕ) → k < n → is_curve (take floats (drop (floats * k) (list_after l p list))) ≡ true
+pub answered_passes : (l : List Float) (p : Params) (list : List Float) (n : ℕ) → created_of l p (length list) ≡ Ok n → (k : ℕ) → k < n → is_curve (take floats (drop (floats * k) (list_after l p list))) ≡ true
 unfolding created_of
-answered_passes l p list n a k h = let z = answered_zero (first_of (create_refusals l p (length list))) (curve_count (length l / 3) p) n a in created_passes l p list z.0 k (rw z.1 h)
+answered_passes l p list n a k h = let z = told-ok (first_of (create_refusals l p (length list))) (curve_count (length l / 3) p) n a in created_passes l p list z.0 k (rw z.1 h)

@@ -1,8 +1,8 @@
 pub mod CreatedPasses
 pub mod NeighboursDiffer
 mod Accepted
+mod AllWithin
 mod Counts
-mod CreatedLemmas
 mod Divisible
 mod Lengths
 mod Limits

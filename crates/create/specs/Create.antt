@@ -1,5 +1,5 @@
--- create_curve_shape and create_curve of src/shapes/curve.rs (01: laying). Definitions only.
-use Rattle.std.specs.Prelude.{ℕ, ◌+◌, ◌-◌, ◌*◌, ◌/◌, ◌%◌, ◌^◌, Bool, cond, not, ◌&&◌, ◌||◌, List, [], ◌∷◌, eqb, leb, ltb, ℤ, pos, nat_abs, ◌-ℤ◌, length, get_or, Float}
+-- create_curve_shape and create_curve of src/shapes/curve.rs. Definitions only.
+use Rattle.std.specs.Prelude.{ℕ, ◌+◌, ◌-◌, ◌*◌, ◌/◌, ◌%◌, ◌^◌, Bool, cond, not, ◌&&◌, ◌||◌, List, [], ◌∷◌, Result, Ok, eqb, leb, ltb, ℤ, pos, nat_abs, ◌-ℤ◌, length, get_or, Float}
 use Rattle.std.specs.Float.{nan, binary32}
 use Rattle.std.specs.Float.Ieee.{of_int, of_bits}
 use Rattle.float.specs.Arith.{◌⊘◌}
@@ -7,7 +7,9 @@ use Rattle.geometry.specs.Pbrt.{lerp_of}
 use Rattle.geometry.specs.Point.{point_from, points_equal}
 use Rattle.limits.specs.Below.{all_below}
 use Rattle.limits.specs.List.{over, up_to}
-use Rattle.limits.specs.Refusal.{Table, first_of, told}
+use Rattle.limits.specs.Refused.{Table, first_of, told, told_by}
+use Rattle.limits.specs.declared.refusal.Refusal.{Refusal}
+use Rattle.limits.specs.declared.refusal.Refusal.TheVariants as refusal
 use Rattle.curve.specs.Layout.{floats, curve_floats}
 use Rattle.limits.specs.Within.{within, width_within}
 use Rattle.limits.specs.Within.{largest}
@@ -15,8 +17,6 @@ use Rattle.create.specs.Basis.{stride_of, segment_at}
 use Rattle.bezier.specs.declared.cubic.Cubic.{Cubic}
 use Rattle.curve.specs.declared.curve.Curve.{Curve}
 use Rattle.create.specs.declared.create.Params.{Params}
-use Rattle.create.specs.declared.create.Created.{Created}
-use Rattle.create.specs.declared.create.Created.TheVariants.{Curves, Refused}
 
 abbrev pub params_of : ℕ → ℕ → ℕ → Float → Float → ℕ → Params
 params_of degree basis ty w0 w1 splitdepth = record { degree = degree; basis = basis; ty = ty; width0 = w0; width1 = w1; splitdepth = splitdepth }
@@ -80,17 +80,17 @@ most_curves = 1024
 unfoldable pub limit_refusals : List Float → Params → ℕ → Table
 limit_refusals l p room =
     let n = length l / 3 in
-    (ltb most_points n || ltb most_curves (curve_count n p), 6) ∷ (limit_wrong l p.width0 p.width1, 7) ∷ (ltb room (floats * curve_count n p), 8) ∷ []
+    (ltb most_points n || ltb most_curves (curve_count n p), refusal.TooMany) ∷ (limit_wrong l p.width0 p.width1, refusal.PointsOrWidths) ∷ (ltb room (floats * curve_count n p), refusal.ListTooShort) ∷ []
 
 -- 1 to 3, 22, and 4 to 8
 unfoldable pub create_refusals : List Float → Params → ℕ → Table
 create_refusals l p room =
-    (not (eqb p.degree 2 || eqb p.degree 3), 1)
-    ∷ (ltb 1 p.basis, 2)
-    ∷ (count_wrong (length l) p.degree p.basis, 3)
-    ∷ (not (neighbours_differ l), 22)
-    ∷ (not (eqb p.ty 0), 4)
-    ∷ (ltb 10 p.splitdepth, 5)
+    (not (eqb p.degree 2 || eqb p.degree 3), refusal.Degree)
+    ∷ (ltb 1 p.basis, refusal.Basis)
+    ∷ (count_wrong (length l) p.degree p.basis, refusal.PointCount)
+    ∷ (not (neighbours_differ l), refusal.EqualNeighbours)
+    ∷ (not (eqb p.ty 0), refusal.«Type»)
+    ∷ (ltb 10 p.splitdepth, refusal.SplitDepth)
     ∷ limit_refusals l p room
 
 -- ---- the curves
@@ -123,11 +123,11 @@ created_floats l p n = up_to (segment_floats l p n) n
 
 -- ---- the answer, and the list afterwards
 
-unfoldable pub created_of : List Float → Params → ℕ → Created
-created_of l p room = told Refused (first_of (create_refusals l p room)) (Curves (curve_count (length l / 3) p))
+unfoldable pub created_of : List Float → Params → ℕ → Result ℕ Refusal
+created_of l p room = told (first_of (create_refusals l p room)) (Ok (curve_count (length l / 3) p))
 
 -- A refusal leaves the list as it was. An acceptance writes the curves' floats from its start, and leaves the rest.
 unfoldable pub list_after : List Float → Params → List Float → List Float
 list_after l p list =
-    told (λ number. list) (first_of (create_refusals l p (length list)))
+    told_by (λ reason. list) (first_of (create_refusals l p (length list)))
     (over list 0 (created_floats l p (segment_count (length l / 3) p.degree p.basis)))

@@ -1,3 +1,3 @@
-pub mod Answer
 pub mod Basis
 pub mod Create
+pub mod Shape

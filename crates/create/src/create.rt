@@ -1,15 +1,18 @@
-// create_curve_shape and create_curve (01: laying): the curves of all segments, into a lent list.
-ghost use Rattle.std.specs.Prelude.{◌≡◌, ◌+◌, ◌*◌, ◌≤◌, length};
+// create_curve_shape and create_curve: the curves of all segments, into a lent list.
+ghost use Rattle.std.specs.Prelude.{◌≡◌, ◌+◌, ◌*◌, ◌<◌, ◌≤◌, length};
 ghost use Rattle.limits.specs.List.{over};
 ghost use Rattle.curve.specs.Layout.{floats, curve_floats};
 ghost use Rattle.create.specs.Basis.{stride_of};
 ghost use Rattle.create.specs.Create.{ratio, part_of, part_floats, part_count, end_width, segment_floats, created_floats, params_of, created_of, list_after};
+ghost use Rattle.create.specs.Shape.{degree_number, basis_number, params_in};
 
-use crate::basis::{segment, stride};
-use crate::refusal::{part_count, refusal, segment_count};
+use crate::basis::segment;
+use crate::refusal::check;
+use crate::shape::Shape;
 use bezier::Cubic;
-use curve::{Curve, FLOATS, curve_floats};
+use curve::{Curve, FLOATS};
 use geometry::lerp;
+use limits::Refusal;
 
 // What a curve is made of, beside its points: basis 0 is Bezier, 1 is B-spline, and type 0 is flat.
 #[derive(Clone, Copy)]
@@ -22,110 +25,95 @@ pub struct Params {
     pub splitdepth: u32,
 }
 
-// How many curves were written, or the refusal's number.
+// A segment with the widths at its ends, and how many curves it is split into.
 #[derive(Clone, Copy)]
-pub enum Created {
-    Curves(u32),
-    Refused(u8),
-}
-
-// Copies floats into the list, from `at` on.
-fn put(list: &mut [f32], at: usize, curve: &[f32])
-    requires { at + length curve.now ≤ length list.old }
-    ensures { list.new ≡ over list.old at curve.now }
-{
-    let mut i = 0usize;
-    while i < curve.len() {
-        list[at + i] = curve[i];
-        i += 1;
-    }
+struct Segment {
+    cp: Cubic,
+    width0: f32,
+    width1: f32,
+    parts: u16,
 }
 
 // a / b of two whole numbers.
+#[tactic(auto, unfolding(crate::specs::Create::ratio))]
 fn quotient(a: u16, b: u16) -> f32
     ensures { result ≡ ratio a b }
 {
     a as f32 / b as f32
 }
 
-// Part i of n of a segment.
-fn put_part(list: &mut [f32], at: usize, cp: Cubic, width0: f32, width1: f32, i: u16, n: u16)
-    requires { (at + floats ≤ length list.old) × (i + 1 ≤ n) }
-    ensures { list.new ≡ over list.old at (curve_floats (part_of cp width0 width1 n i)) }
+// Part i of a segment.
+#[tactic(auto, unfolding(crate::specs::Create::part_of))]
+fn part(s: Segment, i: u16) -> Curve
+    requires { i < s.parts }
+    ensures { result ≡ part_of s.cp s.width0 s.width1 s.parts i }
 {
-    let c = Curve {
-        cp,
-        width0,
-        width1,
-        umin: quotient(i, n),
-        umax: quotient(i + 1, n),
-    };
-    let floats = curve_floats(c);
-    put(list, at, &floats);
+    Curve {
+        cp: s.cp,
+        width0: s.width0,
+        width1: s.width1,
+        umin: quotient(i, s.parts),
+        umax: quotient(i + 1, s.parts),
+    }
+}
+
+// Float by float: copy_from_slice takes 14 instructions a curve more, where all of a curve's part takes 18.
+fn put_curve(list: &mut [f32], at: usize, curve: Curve)
+    requires { at + floats ≤ length list.old }
+    ensures { list.new ≡ over list.old at (curve_floats curve) }
+{
+    let values = <[f32; FLOATS]>::from(curve);
+    for (i, x) in values.iter().enumerate() {
+        list[at + i] = *x;
+    }
 }
 
 // The Rust's create_curve: all parts of a segment.
-fn create_curve(list: &mut [f32], at: usize, cp: Cubic, width0: f32, width1: f32, n: u16)
-    requires { at + floats * n ≤ length list.old }
-    ensures { list.new ≡ over list.old at (part_floats cp width0 width1 n) }
+fn create_curve(list: &mut [f32], at: usize, s: Segment)
+    requires { at + floats * s.parts ≤ length list.old }
+    ensures { list.new ≡ over list.old at (part_floats s.cp s.width0 s.width1 s.parts) }
 {
-    let mut to = at;
-    let mut i = 0u16;
-    while i < n {
-        put_part(list, to, cp, width0, width1, i, n);
-        to += FLOATS;
-        i += 1;
+    for i in 0..s.parts {
+        put_curve(list, at + i as usize * FLOATS, part(s, i));
     }
 }
 
 // The width at the end of seg segments of n.
-fn end_width(p: Params, n: u16, seg: u16) -> f32
-    ensures { result ≡ end_width p n seg }
+#[tactic(auto, unfolding(crate::specs::Create::end_width))]
+fn end_width(shape: Shape, n: u16, seg: u16) -> f32
+    ensures { result ≡ end_width (params_in shape) n seg }
 {
-    lerp(quotient(seg, n), p.width0, p.width1)
+    lerp(quotient(seg, n), shape.width0, shape.width1)
 }
 
-// All parts of segment seg of n, whose first coordinate is the float `from`.
-fn put_segment(
-    list: &mut [f32],
-    to: usize,
-    points: &[f32],
-    from: usize,
-    p: Params,
-    n: u16,
-    seg: u16,
-)
-    requires le_degree { (2 ≤ p.degree) × (p.degree ≤ 3) × (p.splitdepth ≤ 10) }
-    requires seg_bound { (seg + 1 ≤ n) × (from ≡ seg * stride_of p.degree p.basis) × (from + 3 * p.degree + 3 ≤ length points.now) }
-    requires splitdepth_in_bounds { to + floats * part_count p.splitdepth ≤ length list.old }
-    ensures { list.new ≡ over list.old to (segment_floats points.now p n seg) }
+// Segment seg of n.
+#[tactic(auto, unfolding(crate::specs::Create::segment_floats))]
+fn segment_of(points: &[f32], shape: Shape, n: u16, seg: u16) -> Segment
+    requires count { seg < n }
+    requires points { seg * stride_of (degree_number shape.degree) (basis_number shape.basis) + 3 * degree_number shape.degree + 3 ≤ length points.now }
+    ensures parts { result.parts ≡ part_count shape.splitdepth }
+    ensures written { part_floats result.cp result.width0 result.width1 result.parts ≡ segment_floats points.now (params_in shape) n seg }
 {
-    let cp = segment(points, p.degree, p.basis, from);
-    let width0 = end_width(p, n, seg);
-    let width1 = end_width(p, n, seg + 1);
-    create_curve(list, to, cp, width0, width1, part_count(p.splitdepth));
-}
-
-fn put_segments(list: &mut [f32], points: &[f32], p: Params, n: u16)
-    requires le_degree { (2 ≤ p.degree) × (p.degree ≤ 3) × (p.splitdepth ≤ 10) }
-    requires degree_in_bounds { n * stride_of p.degree p.basis + 3 * p.degree + 3 ≤ length points.now + stride_of p.degree p.basis }
-    requires splitdepth_in_bounds { floats * (n * part_count p.splitdepth) ≤ length list.old }
-    ensures { list.new ≡ over list.old 0 (created_floats points.now p n) }
-{
-    let step = stride(p.degree, p.basis);
-    let size = FLOATS * part_count(p.splitdepth) as usize;
-    let mut from = 0usize;
-    let mut to = 0usize;
-    let mut seg = 0u16;
-    while seg < n {
-        put_segment(list, to, points, from, p, n, seg);
-        from += step;
-        to += size;
-        seg += 1;
+    Segment {
+        cp: segment(points, shape, seg as usize * shape.stride()),
+        width0: end_width(shape, n, seg),
+        width1: end_width(shape, n, seg + 1),
+        parts: shape.part_count(),
     }
 }
 
-// 01: laying. Points are three floats each, and the list takes FLOATS floats a curve.
+fn put_segments(list: &mut [f32], points: &[f32], shape: Shape, n: u16)
+    requires points { n * stride_of (degree_number shape.degree) (basis_number shape.basis) + 3 * degree_number shape.degree + 3 ≤ length points.now + stride_of (degree_number shape.degree) (basis_number shape.basis) }
+    requires room { floats * (n * part_count shape.splitdepth) ≤ length list.old }
+    ensures { list.new ≡ over list.old 0 (created_floats points.now (params_in shape) n) }
+{
+    let size = FLOATS * shape.part_count() as usize;
+    for seg in 0..n {
+        create_curve(list, seg as usize * size, segment_of(points, shape, n, seg));
+    }
+}
+
+// Points are three floats each, and the list takes FLOATS floats a curve. Answers how many curves were written.
 pub fn create_curve_shape(
     points: &[f32],
     degree: u32,
@@ -135,7 +123,7 @@ pub fn create_curve_shape(
     width1: f32,
     splitdepth: u32,
     list: &mut [f32],
-) -> Created
+) -> Result<u32, Refusal>
     ensures value { result ≡ created_of points.now (params_of degree basis ty width0 width1 splitdepth) (length list.old) }
     ensures list_after { list.new ≡ list_after points.now (params_of degree basis ty width0 width1 splitdepth) list.old }
 {
@@ -147,11 +135,8 @@ pub fn create_curve_shape(
         width1,
         splitdepth,
     };
-    let number = refusal(points, p, list.len());
-    if number != 0 {
-        return Created::Refused(number);
-    }
-    let n = segment_count(points.len() / 3, degree, basis);
-    put_segments(list, points, p, n as u16);
-    Created::Curves(n as u32 * part_count(splitdepth) as u32)
+    let shape = check(points, p, list.len())?;
+    let n = shape.segment_count(points.len() / 3);
+    put_segments(list, points, shape, n as u16);
+    Ok(n as u32 * shape.part_count() as u32)
 }

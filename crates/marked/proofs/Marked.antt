@@ -1,4 +1,4 @@
--- 01's marked examples M1 to M13, proved together. Assumes nothing.
+-- The marked examples M1 to M13, proved together. Assumes nothing.
 use mathlib.Core.Path.{◌≡◌, refl}
 use mathlib.Core.List.{List, map}
 use Prim.Native.Nat.{ℕ}
@@ -10,7 +10,7 @@ use Rattle.geometry.specs.Point.{point_from, point_lerp, points_equal}
 use Rattle.limits.specs.Below.{all_below}
 use Rattle.limits.specs.Within.{within, width_within}
 use Rattle.limits.specs.List.{over, up_to}
-use Rattle.limits.specs.Refusal.{first_of}
+use Rattle.limits.specs.Refused.{first_of}
 use Rattle.curve.specs.Layout.{curve_floats}
 use Rattle.create.specs.Basis.{stride_of, segment_at, bezier_segment, elevated}
 use Rattle.create.specs.Create.{divisible, count_wrong, segment_count, part_count, curve_count, equals_next, neighbours_differ, all_within, limit_wrong, limit_refusals, create_refusals, ratio, part_of, part_floats, end_width, segment_floats, created_floats, created_of, list_after}

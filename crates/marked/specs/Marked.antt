@@ -1,25 +1,25 @@
--- 01's marked examples M1 to M13, as one list of instances: what a definition gives, and what it should. Definitions only.
-use Rattle.std.specs.Prelude.{ℕ, ◌*◌, List, [], ◌∷◌, pos, Float, get_or, replicate}
-use Rattle.std.proofs.Math.Option.{Option, none, some}
+-- The marked examples M1 to M13, as one list of instances: what a definition gives, and what it should. Definitions only.
+use Rattle.std.specs.Prelude.{ℕ, ◌*◌, List, [], ◌∷◌, Option, Some, None, Result, pos, Float, get_or, replicate}
+use Rattle.std.specs.Result.{result_ok}
 use Rattle.std.specs.Float.{nan, binary32}
 use Rattle.std.specs.Float.Ieee.{of_int, of_bits, to_bits}
 use Rattle.float.specs.Arith.{0f, 1f, 3f, 6f}
 use Rattle.limits.specs.List.{up_to}
+use Rattle.limits.specs.Refused.{status_of}
+use Rattle.limits.specs.declared.refusal.Refusal.{Refusal}
 use Rattle.curve.specs.Layout.{floats, p1_at, p2_at}
-use Rattle.create.specs.Answer.{created_number, created_count}
 use Rattle.create.specs.Create.{most_curves, params_of, created_of, list_after}
-use Rattle.create.specs.declared.create.Created.{Created}
 use Rattle.overlap.specs.Depth.{depth_at}
 
 -- ---- M1 to M7
 
--- an answer in 01's numbers: 0 and how many curves, or the refusal
+-- an answer in numbers: 0 and how many curves, or the refusal
 abbrev pub listed : Option ℕ → List ℕ
-listed (some n) = n ∷ []
-listed none = []
+listed (Some n) = n ∷ []
+listed None = []
 
-abbrev pub numbers_of : Created → List ℕ
-numbers_of a = created_number a ∷ listed (created_count a)
+abbrev pub numbers_of : Result ℕ Refusal → List ℕ
+numbers_of a = status_of a ∷ listed (result_ok a)
 
 -- the points (0, 0, 0), (1, 0, 0), .. up to (n - 1, 0, 0): no two neighbours are equal
 abbrev pub row_of_points : ℕ → List Float
