@@ -111,16 +111,7 @@ impl Point3f {
     pub fn div(self, k: f32) -> Option<Point3f>
         ensures { result ≡ point_divided self k }
     {
-        if k == 0.0 {
-            None
-        } else {
-            let d = 1.0 / k;
-            Some(Point3f {
-                x: self.x * d,
-                y: self.y * d,
-                z: self.z * d,
-            })
-        }
+        if k == 0.0 { None } else { Some(self * (1.0 / k)) }
     }
 
     pub fn min(self, p: Point3f) -> Point3f

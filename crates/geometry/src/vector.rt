@@ -4,6 +4,7 @@
 ghost use Rattle.std.specs.Prelude.{◌≡◌, ◌+◌, ◌≤◌, length};
 ghost use Rattle.geometry.specs.Vector.{vector_from, negated2, dot2, length_squared2, negated, scaled, divided, dot_of, absolute, length_squared, length_of, normalized, minor_of, vector_of, cross_of, crossed_of, coordinate_system};
 
+use crate::point::Point3f;
 use std::ops::{Mul, Neg};
 
 #[derive(Clone, Copy, Debug, PartialEq)]
@@ -58,6 +59,19 @@ pub fn vector_from(s: &[f32], at: usize) -> Vector3f
     }
 }
 
+// A point's vector from the origin.
+impl From<Point3f> for Vector3f {
+    ghost from_gives = { λ p v. v ≡ vector_of p.x p.y p.z };
+
+    fn from(p: Point3f) -> Vector3f {
+        Vector3f {
+            x: p.x,
+            y: p.y,
+            z: p.z,
+        }
+    }
+}
+
 impl Neg for Vector3f {
     type Output = Vector3f;
 
@@ -91,16 +105,7 @@ impl Vector3f {
     pub fn div(self, k: f32) -> Option<Vector3f>
         ensures { result ≡ divided self k }
     {
-        if k == 0.0 {
-            None
-        } else {
-            let d = 1.0 / k;
-            Some(Vector3f {
-                x: self.x * d,
-                y: self.y * d,
-                z: self.z * d,
-            })
-        }
+        if k == 0.0 { None } else { Some(self * (1.0 / k)) }
     }
 
     pub fn dot(self, v: Vector3f) -> f32

@@ -10,7 +10,7 @@ use matrix::Row;
 pub fn row_point(r: Row, p: Point3f) -> f32
     ensures { result ≡ row_point r p }
 {
-    p.x * r.c0 + p.y * r.c1 + p.z * r.c2 + r.c3
+    row_vector(r, Vector3f::from(p)) + r.c3
 }
 
 pub fn row_vector(r: Row, v: Vector3f) -> f32
@@ -23,7 +23,7 @@ pub fn row_vector(r: Row, v: Vector3f) -> f32
 pub fn row_point_abs(r: Row, p: Point3f) -> f32
     ensures { result ≡ row_point_abs r p }
 {
-    float::abs(p.x * r.c0) + float::abs(p.y * r.c1) + float::abs(p.z * r.c2) + float::abs(r.c3)
+    row_vector_abs(r, Vector3f::from(p)) + float::abs(r.c3)
 }
 
 pub fn row_vector_abs(r: Row, v: Vector3f) -> f32
