@@ -12,7 +12,7 @@ mod vector;
 
 pub use bounds::Bounds3f;
 pub use normal::Normal3f;
-pub use pbrt::{clamp, gamma, lerp};
+pub use pbrt::{Interpolate, clamp, gamma, lerp};
 pub use point::{POINT_FLOATS, Point2f, Point3f, point_from};
 pub use ray::{RAY_FLOATS, Ray, ray_from};
 pub use vector::{Crossed, Vector2f, Vector3f, vec3_coordinate_system, vector_from};

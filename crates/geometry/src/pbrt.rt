@@ -1,11 +1,37 @@
 // Numbers: core/pbrt.rs.
 #![tactic(auto, unfolding(crate::specs::Pbrt::lerp_of, crate::specs::Pbrt::clamp_of, crate::specs::Pbrt::gamma_of))]
 
-ghost use Rattle.std.specs.Prelude.{◌≡◌};
+ghost use Rattle.std.specs.Prelude.{◌≡◌, Float};
+ghost use Rattle.std.proofs.Common.{rules};
+ghost use Rattle.float.specs.Arith.{◌⊖◌, 1f};
 ghost use Rattle.geometry.specs.Pbrt.{lerp_of, clamp_of, gamma_of};
 
-pub fn lerp(t: f32, x: f32, y: f32) -> f32
-    ensures { result ≡ lerp_of t x y }
+use std::ops::{Add, Mul};
+
+// What `lerp` goes between: numbers, and points. The law says what its two products and their sum come to.
+pub trait Interpolate: Copy + Mul<f32, Output = Self> + Add<Output = Self> {
+    ghost lerp_of: { Float → Self → Self → Self };
+
+    ghost may_scale: { (x : Self) (k : Float) → Self.Mul.can_mul x k };
+
+    ghost may_add: { (x y : Self) → Self.Add.can_add x y };
+
+    ghost comes_to: { (t : Float) (x y a b r : Self) → Self.Mul.mul_gives x (1f ⊖ t) a → Self.Mul.mul_gives y t b → Self.Add.add_gives a b r → r ≡ lerp_of t x y };
+}
+
+impl Interpolate for f32 {
+    ghost lerp_of = { lerp_of };
+
+    ghost may_scale = { λ _ _. tt };
+
+    ghost may_add = { λ _ _. tt };
+
+    ghost comes_to = { unfold lerp_of in Prim.search rules };
+}
+
+// From `x` at 0 to `y` at 1.
+pub fn lerp<T: Interpolate>(t: f32, x: T, y: T) -> T
+    ensures { result ≡ T.lerp_of t x y }
 {
     x * (1.0 - t) + y * t
 }

@@ -2,9 +2,11 @@
 #![tactic(auto, unfolding(crate::specs::Point::point_from, crate::specs::Point::difference2, crate::specs::Point::plus, crate::specs::Point::moved, crate::specs::Point::difference, crate::specs::Point::point_scaled, crate::specs::Point::point_divided, crate::specs::Point::least_of, crate::specs::Point::greatest_of, crate::specs::Point::point_lerp, crate::specs::Point::points_equal))]
 
 ghost use Rattle.std.specs.Prelude.{◌≡◌, ◌+◌, ◌≤◌, length};
+ghost use Rattle.std.proofs.Common.{rules};
+ghost use Rattle.geometry.specs.Pbrt.{lerp_of};
 ghost use Rattle.geometry.specs.Point.{point_from, difference2, plus, moved, difference, point_scaled, point_divided, least_of, greatest_of, point_lerp, points_equal};
 
-use crate::pbrt::lerp;
+use crate::pbrt::{Interpolate, lerp};
 use crate::vector::{Vector2f, Vector3f};
 use std::ops::{Add, Mul, Sub};
 
@@ -106,12 +108,26 @@ impl Mul<f32> for Point3f {
     }
 }
 
+impl Interpolate for Point3f {
+    ghost lerp_of = { point_lerp };
+
+    ghost may_scale = { λ _ _. tt };
+
+    ghost may_add = { λ _ _. tt };
+
+    ghost comes_to = { unfold point_lerp lerp_of plus point_scaled in Prim.search rules };
+}
+
 impl Point3f {
     // One reciprocal, and three products. There is none for a zero: there the Rust panics.
     pub fn div(self, k: f32) -> Option<Point3f>
         ensures { result ≡ point_divided self k }
     {
-        if k == 0.0 { None } else { Some(self * (1.0 / k)) }
+        if k == 0.0 {
+            None
+        } else {
+            Some(self * (1.0 / k))
+        }
     }
 
     pub fn min(self, p: Point3f) -> Point3f
@@ -134,14 +150,10 @@ impl Point3f {
         }
     }
 
-    // The Rust's `lerp` at two points: from `x` at 0 to `y` at 1.
+    // For who says the type: `geometry::lerp` at two points.
     pub fn lerp(t: f32, x: Point3f, y: Point3f) -> Point3f
         ensures { result ≡ point_lerp t x y }
     {
-        Point3f {
-            x: lerp(t, x.x, y.x),
-            y: lerp(t, x.y, y.y),
-            z: lerp(t, x.z, y.z),
-        }
+        lerp(t, x, y)
     }
 }

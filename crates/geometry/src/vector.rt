@@ -105,7 +105,11 @@ impl Vector3f {
     pub fn div(self, k: f32) -> Option<Vector3f>
         ensures { result ≡ divided self k }
     {
-        if k == 0.0 { None } else { Some(self * (1.0 / k)) }
+        if k == 0.0 {
+            None
+        } else {
+            Some(self * (1.0 / k))
+        }
     }
 
     pub fn dot(self, v: Vector3f) -> f32
