@@ -71,7 +71,7 @@ pub fn round_product(x: f32, k: u32, ties: Ties) -> Option<u32>
         }
         // x is a whole number
         150..=158 => hold(product << (exponent - 150)),
-        // the digits alone are more than a u32 holds
+        // the digits alone are more than a u32 holds, unless the factor is 0
         159..=254 if product == 0 => Some(0),
         _ => None,
     }
