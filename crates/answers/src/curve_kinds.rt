@@ -1,67 +1,93 @@
-// The library's answers of curves, area, price and boxes, and of any four points, their corners. Each function answers
-// how many words it put.
-use crate::places::{CURVE, CURVE_END, P0, P1, P2, P3, RATE};
-use crate::put::{DONE, put_bounds, put_status};
+// The library's answers of curves, area, price and boxes, and of any four points, their corners.
+use crate::answer::{Answer, DONE};
+use crate::inputs::Inputs;
+use crate::operation::Operation;
 use bezier::Cubic;
-use geometry::point_from;
-use lines::{Floats, Out, Words, put_floats, put_word};
-use matrix::matrix_from;
 use measure::{Bound, Measured, Priced};
 
-// The curve that a line starts with. The part is taken of a slice: a part of a lent array would want a proof by hand.
-pub fn curve_in<'a>(floats: &'a Floats) -> &'a [f32] {
-    let all = &floats[..];
-    &all[CURVE..CURVE_END]
-}
+pub struct Corners;
 
-// The lower corner, then the upper.
-pub fn corners(floats: &Floats, out: &mut Out) -> usize {
-    let cp = Cubic {
-        p0: point_from(floats, P0),
-        p1: point_from(floats, P1),
-        p2: point_from(floats, P2),
-        p3: point_from(floats, P3),
-    };
-    let c = bezier::corners_of(&bezier::points_of(cp));
-    let upper = put_floats(out, 0, &[c.x.least, c.y.least, c.z.least]);
-    put_floats(out, upper, &[c.x.greatest, c.y.greatest, c.z.greatest])
-}
+impl Operation for Corners {
+    const FILE: &'static str = "corners.txt";
 
-pub fn area(floats: &Floats, out: &mut Out) -> usize {
-    match measure::area(curve_in(floats)) {
-        Measured::Area(a) => {
-            let at = put_status(out, DONE);
-            put_floats(out, at, &[a])
-        }
-        Measured::Refused(number) => put_status(out, number),
+    // The lower corner, then the upper.
+    fn answer(inputs: &mut Inputs<'_>, out: &mut Answer) -> Option<()> {
+        let cp = Cubic {
+            p0: inputs.point()?,
+            p1: inputs.point()?,
+            p2: inputs.point()?,
+            p3: inputs.point()?,
+        };
+        let c = bezier::corners_of(&bezier::points_of(cp));
+        out.floats(&[c.x.least, c.y.least, c.z.least])?;
+        out.floats(&[c.x.greatest, c.y.greatest, c.z.greatest])
     }
 }
 
-pub fn price(words: &Words, floats: &Floats, out: &mut Out) -> usize {
-    match measure::price(curve_in(floats), words[RATE]) {
-        Priced::Cents(n) => {
-            let at = put_status(out, DONE);
-            put_word(out, at, n)
+pub struct Area;
+
+impl Operation for Area {
+    const FILE: &'static str = "area.txt";
+
+    fn answer(inputs: &mut Inputs<'_>, out: &mut Answer) -> Option<()> {
+        match measure::area(&inputs.curve()?) {
+            Measured::Area(area) => {
+                out.word(DONE)?;
+                out.float(area)
+            }
+            Measured::Refused(number) => out.word(number as u32),
         }
-        Priced::Refused(number) => put_status(out, number),
     }
 }
 
-fn put_bound(out: &mut Out, b: Bound) -> usize {
+pub struct Price;
+
+impl Operation for Price {
+    const FILE: &'static str = "price.txt";
+
+    fn answer(inputs: &mut Inputs<'_>, out: &mut Answer) -> Option<()> {
+        let curve = inputs.curve()?;
+        match measure::price(&curve, inputs.word()?) {
+            Priced::Cents(cents) => {
+                out.word(DONE)?;
+                out.word(cents)
+            }
+            Priced::Refused(number) => out.word(number as u32),
+        }
+    }
+}
+
+fn put_bound(out: &mut Answer, b: Bound) -> Option<()> {
     match b {
         Bound::Bounds(b) => {
-            let at = put_status(out, DONE);
-            put_bounds(out, at, b)
+            out.word(DONE)?;
+            out.bounds(b)
         }
-        Bound::Refused(number) => put_status(out, number),
+        Bound::Refused(number) => out.word(number as u32),
     }
 }
 
-pub fn object_bound(floats: &Floats, out: &mut Out) -> usize {
-    put_bound(out, measure::object_bound(curve_in(floats)))
+pub struct ObjectBound;
+
+impl Operation for ObjectBound {
+    const FILE: &'static str = "object_bound.txt";
+
+    const IS_BOX: bool = true;
+
+    fn answer(inputs: &mut Inputs<'_>, out: &mut Answer) -> Option<()> {
+        put_bound(out, measure::object_bound(&inputs.curve()?))
+    }
 }
 
-pub fn world_bound(floats: &Floats, out: &mut Out) -> usize {
-    let m = matrix_from(floats, CURVE_END);
-    put_bound(out, measure::world_bound(curve_in(floats), m))
+pub struct WorldBound;
+
+impl Operation for WorldBound {
+    const FILE: &'static str = "world_bound.txt";
+
+    const IS_BOX: bool = true;
+
+    fn answer(inputs: &mut Inputs<'_>, out: &mut Answer) -> Option<()> {
+        let curve = inputs.curve()?;
+        put_bound(out, measure::world_bound(&curve, inputs.matrix()?))
+    }
 }

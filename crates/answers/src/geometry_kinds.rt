@@ -1,12 +1,17 @@
-// The library's answers of floats and vectors. Each function answers how many words it put.
-use crate::places::{FACTOR, HIGH, LOW, TIES_EVEN, V1, V2, X};
-use crate::put::{DONE, put_status, put_vector};
+// The library's answers of floats and vectors.
+use crate::answer::{Answer, DONE};
+use crate::inputs::Inputs;
+use crate::operation::Operation;
 use float::Ties;
-use geometry::{CoordinateSystem, Divided, vector_from};
-use lines::{Floats, Out, Words, put_floats, put_word};
 
-pub fn sqrt(floats: &Floats, out: &mut Out) -> usize {
-    put_floats(out, 0, &[float::sqrt(floats[X])])
+pub struct Sqrt;
+
+impl Operation for Sqrt {
+    const FILE: &'static str = "sqrt.txt";
+
+    fn answer(inputs: &mut Inputs<'_>, out: &mut Answer) -> Option<()> {
+        out.float(float::sqrt(inputs.float()?))
+    }
 }
 
 fn f64_of(high: u32, low: u32) -> f64 {
@@ -18,50 +23,78 @@ fn f64_of(high: u32, low: u32) -> f64 {
     }
 }
 
-pub fn narrow(words: &Words, out: &mut Out) -> usize {
-    put_floats(out, 0, &[float::narrow(f64_of(words[HIGH], words[LOW]))])
+pub struct Narrow;
+
+impl Operation for Narrow {
+    const FILE: &'static str = "narrow.txt";
+
+    fn answer(inputs: &mut Inputs<'_>, out: &mut Answer) -> Option<()> {
+        let high = inputs.word()?;
+        let low = inputs.word()?;
+        out.float(float::narrow(f64_of(high, low)))
+    }
 }
 
 // The status of a product that a u32 does not hold.
-const BEYOND: u8 = 1;
+const BEYOND: u32 = 1;
 
-fn put_rounded(out: &mut Out, r: Option<u32>) -> usize {
-    match r {
-        Some(n) => {
-            let at = put_status(out, DONE);
-            put_word(out, at, n)
+pub struct RoundProduct;
+
+impl Operation for RoundProduct {
+    const FILE: &'static str = "round_product.txt";
+
+    fn answer(inputs: &mut Inputs<'_>, out: &mut Answer) -> Option<()> {
+        let x = inputs.float()?;
+        let factor = inputs.word()?;
+        let ties = match inputs.word()? {
+            0 => Ties::Up,
+            _ => Ties::Even,
+        };
+        match float::round_product(x, factor, ties) {
+            Some(n) => {
+                out.word(DONE)?;
+                out.word(n)
+            }
+            None => out.word(BEYOND),
         }
-        None => put_status(out, BEYOND),
     }
 }
 
-pub fn round_product(words: &Words, floats: &Floats, out: &mut Out) -> usize {
-    let ties = if words[TIES_EVEN] == 0 {
-        Ties::Up
-    } else {
-        Ties::Even
-    };
-    put_rounded(out, float::round_product(floats[X], words[FACTOR], ties))
-}
+pub struct Cross;
 
-pub fn cross(floats: &Floats, out: &mut Out) -> usize {
-    let v2 = vector_from(floats, V2);
-    put_vector(out, 0, vector_from(floats, V1).cross(v2))
-}
+impl Operation for Cross {
+    const FILE: &'static str = "cross.txt";
 
-pub fn normalize(floats: &Floats, out: &mut Out) -> usize {
-    match vector_from(floats, V1).normalize() {
-        Divided::Vector(v) => put_vector(out, 0, v),
-        Divided::ByZero => 0,
+    fn answer(inputs: &mut Inputs<'_>, out: &mut Answer) -> Option<()> {
+        let v1 = inputs.vector()?;
+        let v2 = inputs.vector()?;
+        out.vector(v1.cross(v2))
     }
 }
 
-pub fn coordinate_system(floats: &Floats, out: &mut Out) -> usize {
-    match geometry::vec3_coordinate_system(vector_from(floats, V1)) {
-        CoordinateSystem::Axes(v2, v3) => {
-            let at = put_vector(out, 0, v2);
-            put_vector(out, at, v3)
+pub struct Normalize;
+
+impl Operation for Normalize {
+    const FILE: &'static str = "normalize.txt";
+
+    fn answer(inputs: &mut Inputs<'_>, out: &mut Answer) -> Option<()> {
+        match inputs.vector()?.normalize() {
+            Some(v) => out.vector(v),
+            None => Some(()),
         }
-        CoordinateSystem::ZeroLength => 0,
+    }
+}
+
+pub struct CoordinateSystem;
+
+impl Operation for CoordinateSystem {
+    const FILE: &'static str = "coordinate_system.txt";
+
+    fn answer(inputs: &mut Inputs<'_>, out: &mut Answer) -> Option<()> {
+        if let Some((v2, v3)) = geometry::vec3_coordinate_system(inputs.vector()?) {
+            out.vector(v2)?;
+            out.vector(v3)?;
+        }
+        Some(())
     }
 }

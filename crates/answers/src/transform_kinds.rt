@@ -1,63 +1,87 @@
-// The library's answers of matrices and transforms. Each function answers how many words it put.
-use crate::places::{LOOK, MATRIX, MATRIX_RAY, P_MAX, P_MIN, POINT, POS, UP};
-use crate::put::{put_bounds, put_point, put_ray, put_vector};
-use geometry::{Bounds3f, point_from, ray_from, vector_from};
-use lines::{Floats, Out, put_floats, put_word};
-use matrix::{flatten, matrix_from};
-use transform::{LookAt, TransformedBounds, TransformedPoint, TransformedRay};
+// The library's answers of matrices and transforms.
+use crate::answer::Answer;
+use crate::inputs::Inputs;
+use crate::operation::Operation;
+use matrix::flatten;
 
-pub fn inverse(floats: &Floats, out: &mut Out) -> usize {
-    let m = matrix_from(floats, MATRIX).inverse();
-    put_floats(out, 0, &flatten(m))
-}
+pub struct Inverse;
 
-pub fn transform_point(floats: &Floats, out: &mut Out) -> usize {
-    let p = point_from(floats, POINT);
-    match transform::transform_point(matrix_from(floats, MATRIX), p) {
-        TransformedPoint::Point(p) => put_point(out, 0, p),
-        TransformedPoint::ZeroWeight => 0,
+impl Operation for Inverse {
+    const FILE: &'static str = "inverse.txt";
+
+    fn answer(inputs: &mut Inputs<'_>, out: &mut Answer) -> Option<()> {
+        out.floats(&flatten(inputs.matrix()?.inverse()))
     }
 }
 
-pub fn transform_ray_error(floats: &Floats, out: &mut Out) -> usize {
-    let ray = ray_from(floats, MATRIX_RAY);
-    match transform::transform_ray_error(matrix_from(floats, MATRIX), ray) {
-        TransformedRay::Ray(r) => {
-            let o_error = put_ray(out, 0, r.ray);
-            let d_error = put_vector(out, o_error, r.o_error);
-            put_vector(out, d_error, r.d_error)
+pub struct TransformPoint;
+
+impl Operation for TransformPoint {
+    const FILE: &'static str = "transform_point.txt";
+
+    fn answer(inputs: &mut Inputs<'_>, out: &mut Answer) -> Option<()> {
+        let m = inputs.matrix()?;
+        match transform::transform_point(m, inputs.point()?) {
+            Some(p) => out.point(p),
+            None => Some(()),
         }
-        TransformedRay::ZeroWeight => 0,
     }
 }
 
-pub fn transform_bounds(floats: &Floats, out: &mut Out) -> usize {
-    let b = Bounds3f {
-        p_min: point_from(floats, P_MIN),
-        p_max: point_from(floats, P_MAX),
-    };
-    match transform::transform_bounds(matrix_from(floats, MATRIX), b) {
-        TransformedBounds::Bounds(b) => put_bounds(out, 0, b),
-        TransformedBounds::ZeroWeight => 0,
-    }
-}
+pub struct TransformRayError;
 
-pub fn swaps_handedness(floats: &Floats, out: &mut Out) -> usize {
-    if transform::swaps_handedness(matrix_from(floats, MATRIX)) {
-        put_word(out, 0, 1)
-    } else {
-        put_word(out, 0, 0)
-    }
-}
+impl Operation for TransformRayError {
+    const FILE: &'static str = "transform_ray_error.txt";
 
-pub fn look_at(floats: &Floats, out: &mut Out) -> usize {
-    let pos = point_from(floats, POS);
-    let look = point_from(floats, LOOK);
-    match transform::look_at(pos, look, vector_from(floats, UP)) {
-        LookAt::Transform(t) => {
-            let m_inv = put_floats(out, 0, &flatten(t.m));
-            put_floats(out, m_inv, &flatten(t.m_inv))
+    fn answer(inputs: &mut Inputs<'_>, out: &mut Answer) -> Option<()> {
+        let m = inputs.matrix()?;
+        if let Some(r) = transform::transform_ray_error(m, inputs.ray()?) {
+            out.ray(r.ray)?;
+            out.vector(r.o_error)?;
+            out.vector(r.d_error)?;
         }
-        LookAt::ZeroLength => 0,
+        Some(())
+    }
+}
+
+pub struct TransformBounds;
+
+impl Operation for TransformBounds {
+    const FILE: &'static str = "transform_bounds.txt";
+
+    const IS_BOX: bool = true;
+
+    fn answer(inputs: &mut Inputs<'_>, out: &mut Answer) -> Option<()> {
+        let m = inputs.matrix()?;
+        match transform::transform_bounds(m, inputs.bounds()?) {
+            Some(b) => out.bounds(b),
+            None => Some(()),
+        }
+    }
+}
+
+pub struct SwapsHandedness;
+
+impl Operation for SwapsHandedness {
+    const FILE: &'static str = "swaps_handedness.txt";
+
+    fn answer(inputs: &mut Inputs<'_>, out: &mut Answer) -> Option<()> {
+        out.word(u32::from(transform::swaps_handedness(inputs.matrix()?)))
+    }
+}
+
+pub struct LookAt;
+
+impl Operation for LookAt {
+    const FILE: &'static str = "look_at.txt";
+
+    fn answer(inputs: &mut Inputs<'_>, out: &mut Answer) -> Option<()> {
+        let pos = inputs.point()?;
+        let look = inputs.point()?;
+        if let Some(t) = transform::look_at(pos, look, inputs.vector()?) {
+            out.floats(&flatten(t.m))?;
+            out.floats(&flatten(t.m_inv))?;
+        }
+        Some(())
     }
 }

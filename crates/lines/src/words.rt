@@ -1,75 +1,59 @@
-// Lines of words in hexadecimal, a byte at a time. Each word is kept as it stands and as the float that has its bits.
-use std::io::Write;
-use text::digit;
+// The words of a line or of an answer, in memory that is fixed.
+ghost use Rattle.std.specs.Prelude.{◌≡◌, ℕ, ◌<◌, ◌≤◌, ◌↔◌, List, [], ◌∷◌, ◌++◌, length, take, IsSome, OnSome, IfNone};
+
+use std::marker::Model;
 
 // Room for the words of any line.
 pub const LINE_WORDS: usize = 4096;
 
-pub type Words = [u32; LINE_WORDS];
-
-pub type Floats = [f32; LINE_WORDS];
-
-// The word that is being read, and how many words stand before it in its line.
-#[derive(Clone, Copy)]
-pub struct Scan {
-    pub word: u32,
-    pub count: usize,
+// At most N words.
+#[derive(Debug, Drop)]
+pub struct Words<const N: usize> {
+    words: [u32; N],
+    len: usize,
 }
 
-// What a byte leads to: on in its line, or its end with so many words.
-#[derive(Clone, Copy)]
-pub enum Step {
-    More(Scan),
-    End(usize),
+impl<const N: usize> Model for Words<N> {
+    ghost Value = { List ℕ };
+
+    ghost view = { λ w. take w.len w.words };
+
+    ghost invariant = { λ w. w.len ≤ N };
 }
 
-pub fn start() -> Scan {
-    Scan { word: 0, count: 0 }
-}
-
-// A word that has no room is not kept: the count is then that of a line that is too long.
-fn end_word(words: &mut Words, floats: &mut Floats, s: Scan) -> usize {
-    let at = s.count;
-    if at < LINE_WORDS {
-        words[at] = s.word;
-        floats[at] = float::of_bits(s.word);
-        at + 1
-    } else {
-        LINE_WORDS + 1
+impl<const N: usize> Words<N> {
+    pub fn new() -> Self
+        ensures { result ≡ [] }
+    {
+        Words {
+            words: [0; N],
+            len: 0,
+        }
     }
-}
 
-pub fn take_byte(b: u8, words: &mut Words, floats: &mut Floats, s: Scan) -> Step {
-    let d = digit(b);
-    if d < 16 {
-        return Step::More(Scan {
-            word: s.word % 0x1000_0000 * 16 + d,
-            count: s.count,
-        });
+    // Adds a word behind the others, where there is room.
+    pub fn push(&mut self, word: u32) -> Option<()>
+        ensures room { IsSome result ↔ (length self.old < N) }
+        ensures pushed { OnSome result (self.new ≡ self.old ++ word ∷ []) }
+        ensures full { IfNone result (self.new ≡ self.old) }
+    {
+        if self.len == N {
+            return None;
+        }
+        self.words[self.len] = word;
+        self.len += 1;
+        Some(())
     }
-    let n = end_word(words, floats, s);
-    if b == b'\n' {
-        Step::End(n)
-    } else {
-        Step::More(Scan { word: 0, count: n })
-    }
-}
 
-// A write that fails is not told: what stands on standard output is short of it.
-fn print_word<W: Write>(out: &mut W, word: u32) {
-    let _ = write!(out, "{word:08x} ");
-}
-
-fn print_word_at<W: Write>(out: &mut W, words: &Words, i: usize) {
-    if i < LINE_WORDS {
-        print_word(out, words[i]);
+    pub fn as_slice(&self) -> &[u32]
+        ensures { result.now ≡ self.now }
+    {
+        &self.words[..self.len]
     }
-}
 
-// Prints a line that differs.
-pub fn print_line<W: Write>(out: &mut W, words: &Words, n: usize) {
-    for i in 0..n {
-        print_word_at(out, words, i);
+    pub fn clear(&mut self)
+        ensures { self.new ≡ [] }
+    {
+        self.len = 0;
     }
-    let _ = out.write_all(b"differs\n");
 }

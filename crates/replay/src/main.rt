@@ -1,91 +1,99 @@
-// Runs the oracle's stored answers, KIND.txt, against the library, and prints a line for each
-// kind with the number of answers that were compared and that differ. A difference prints its line.
+// Runs the oracle's stored answers against the library, and prints a line for each operation's file
+// with the number of answers that were compared and that differ. A difference prints its line.
 #![tactic(auto)]
 
 mod compare;
 mod scan;
 
-use answers::Kind;
-use lines::{Floats, LINE_WORDS, Words};
-use scan::Tally;
+use answers::Operation;
+use compare::holds;
+use scan::Scan;
 use std::fs::File;
 use std::io::{Read, Write};
 use transfer::fail;
 
-// Reads once, and answers whether to go on.
-#[derive(Clone, Copy)]
-struct Turn {
-    tally: Tally,
-    goes_on: bool,
+// How many lines were compared, and how many of them differ.
+#[derive(Clone, Copy, Debug)]
+struct Tally {
+    lines: u64,
+    differ: u64,
 }
 
-fn read_some<W: Write>(
+// Compares the lines that end in some bytes.
+fn compare_lines<O: Operation, W: Write>(
     out: &mut W,
-    file: &mut File,
-    kind: Kind,
-    words: &mut Words,
-    floats: &mut Floats,
-    tally: Tally,
-) -> Turn {
-    let mut buf = [0u8; 65536];
-    let n = file.read(&mut buf).unwrap_or(0);
-    let after = scan::scan_bytes(out, kind, &buf[..n], words, floats, tally);
-    Turn {
-        tally: after,
-        goes_on: n > 0,
+    bytes: &[u8],
+    scan: &mut Scan,
+    tally: &mut Tally,
+) {
+    for byte in bytes {
+        if scan.take(*byte) {
+            tally.lines = tally.lines.wrapping_add(1);
+            if !scan.line().is_some_and(|line| holds::<O>(line)) {
+                tally.differ = tally.differ.wrapping_add(1);
+                scan.print(out);
+            }
+            scan.clear();
+        }
     }
 }
 
 // A proved loop has to end, and nothing says that a file does: the turns are counted up to a number
 // that no run reaches.
-fn read_all<W: Write>(out: &mut W, file: &mut File, kind: Kind) -> Tally {
-    let mut words = [0u32; LINE_WORDS];
-    let mut floats = [0.0f32; LINE_WORDS];
-    let mut tally = scan::start();
+fn compare_all<O: Operation, W: Write>(out: &mut W, file: &mut File) -> Tally {
+    let mut buf = [0u8; 65536];
+    let mut scan = Scan::new();
+    let mut tally = Tally {
+        lines: 0,
+        differ: 0,
+    };
     for _ in 0..u64::MAX {
-        let turn = read_some(out, file, kind, &mut words, &mut floats, tally);
-        tally = turn.tally;
-        if !turn.goes_on {
-            return tally;
+        let n = file.read(&mut buf).unwrap_or(0);
+        if n == 0 {
+            break;
         }
+        compare_lines::<O, W>(out, &buf[..n], &mut scan, &mut tally);
     }
     tally
 }
 
 // A write that fails is not told: what stands on standard output is short of it.
-fn compare_file<W: Write>(out: &mut W, file: &mut File, kind: Kind, path: &str) {
-    let tally = read_all(out, file, kind);
-    let lines = tally.lines;
-    let differ = tally.differ;
-    let _ = writeln!(out, "{path}: {lines} compared, {differ} differ");
-}
-
-fn replay(rt: &HostRuntime, kind: Kind, path: &str) {
-    match File::open(rt, path) {
-        Ok(mut file) => compare_file(&mut rt.stdout(), &mut file, kind, path),
-        Err(error) => fail(&mut rt.stderr(), path.as_bytes(), &error),
+fn replay<O: Operation>(rt: &HostRuntime) {
+    match File::open(rt, O::FILE) {
+        Ok(mut file) => {
+            let mut out = rt.stdout();
+            let tally = compare_all::<O, _>(&mut out, &mut file);
+            let _ = writeln!(
+                out,
+                "{}: {} compared, {} differ",
+                O::FILE,
+                tally.lines,
+                tally.differ
+            );
+        }
+        Err(error) => fail(&mut rt.stderr(), O::FILE.as_bytes(), &error),
     }
 }
 
 fn main(rt: HostRuntime) {
-    replay(&rt, Kind::Sqrt, "sqrt.txt");
-    replay(&rt, Kind::Narrow, "narrow.txt");
-    replay(&rt, Kind::RoundProduct, "round_product.txt");
-    replay(&rt, Kind::Cross, "cross.txt");
-    replay(&rt, Kind::Normalize, "normalize.txt");
-    replay(&rt, Kind::CoordinateSystem, "coordinate_system.txt");
-    replay(&rt, Kind::Inverse, "inverse.txt");
-    replay(&rt, Kind::TransformPoint, "transform_point.txt");
-    replay(&rt, Kind::TransformRayError, "transform_ray_error.txt");
-    replay(&rt, Kind::TransformBounds, "transform_bounds.txt");
-    replay(&rt, Kind::SwapsHandedness, "swaps_handedness.txt");
-    replay(&rt, Kind::LookAt, "look_at.txt");
-    replay(&rt, Kind::Corners, "corners.txt");
-    replay(&rt, Kind::Area, "area.txt");
-    replay(&rt, Kind::Price, "price.txt");
-    replay(&rt, Kind::ObjectBound, "object_bound.txt");
-    replay(&rt, Kind::WorldBound, "world_bound.txt");
-    replay(&rt, Kind::CreateCurveShape, "create_curve_shape.txt");
-    replay(&rt, Kind::Intersect, "intersect.txt");
-    replay(&rt, Kind::Nearest, "nearest.txt");
+    replay::<answers::Sqrt>(&rt);
+    replay::<answers::Narrow>(&rt);
+    replay::<answers::RoundProduct>(&rt);
+    replay::<answers::Cross>(&rt);
+    replay::<answers::Normalize>(&rt);
+    replay::<answers::CoordinateSystem>(&rt);
+    replay::<answers::Inverse>(&rt);
+    replay::<answers::TransformPoint>(&rt);
+    replay::<answers::TransformRayError>(&rt);
+    replay::<answers::TransformBounds>(&rt);
+    replay::<answers::SwapsHandedness>(&rt);
+    replay::<answers::LookAt>(&rt);
+    replay::<answers::Corners>(&rt);
+    replay::<answers::Area>(&rt);
+    replay::<answers::Price>(&rt);
+    replay::<answers::ObjectBound>(&rt);
+    replay::<answers::WorldBound>(&rt);
+    replay::<answers::CreateCurveShape>(&rt);
+    replay::<answers::Intersect>(&rt);
+    replay::<answers::Nearest>(&rt);
 }

@@ -1,78 +1,60 @@
-// The lines of a file, compared as they end.
-use crate::compare::holds;
-use answers::Kind;
-use lines::{Floats, Scan, Step, Words};
+// Lines of words in hexadecimal, a byte at a time.
+use lines::{LINE_WORDS, Words};
 use std::io::Write;
+use text::digit;
 
-// Where the scan is, and how many lines were compared and differ.
-#[derive(Clone, Copy)]
-pub struct Tally {
-    pub scan: Scan,
-    pub lines: u64,
-    pub differ: u64,
+// A line as far as it is read: its words, the word that is being read, and whether one had no room.
+#[derive(Debug, Drop)]
+pub struct Scan {
+    words: Words<LINE_WORDS>,
+    word: u32,
+    is_over: bool,
 }
 
-pub fn start() -> Tally {
-    Tally {
-        scan: lines::start(),
-        lines: 0,
-        differ: 0,
+impl Scan {
+    pub fn new() -> Scan {
+        Scan {
+            words: Words::new(),
+            word: 0,
+            is_over: false,
+        }
     }
-}
 
-fn end_line<W: Write>(
-    out: &mut W,
-    kind: Kind,
-    words: &Words,
-    floats: &Floats,
-    n: usize,
-    t: Tally,
-) -> Tally {
-    let lines = t.lines.wrapping_add(1);
-    if holds(kind, words, floats, n) {
-        return Tally {
-            scan: lines::start(),
-            lines,
-            differ: t.differ,
-        };
+    // Takes a byte, and answers whether it ends the line.
+    pub fn take(&mut self, byte: u8) -> bool {
+        let d = digit(byte);
+        if d < 16 {
+            self.word = self.word % 0x1000_0000 * 16 + d;
+            return false;
+        }
+        if self.words.push(self.word).is_none() {
+            self.is_over = true;
+        }
+        self.word = 0;
+        byte == b'\n'
     }
-    lines::print_line(out, words, n);
-    Tally {
-        scan: lines::start(),
-        lines,
-        differ: t.differ.wrapping_add(1),
-    }
-}
 
-fn step<W: Write>(
-    out: &mut W,
-    kind: Kind,
-    b: u8,
-    words: &mut Words,
-    floats: &mut Floats,
-    t: Tally,
-) -> Tally {
-    match lines::take_byte(b, words, floats, t.scan) {
-        Step::More(scan) => Tally {
-            scan,
-            lines: t.lines,
-            differ: t.differ,
-        },
-        Step::End(n) => end_line(out, kind, words, floats, n, t),
+    // The words of the line, where all had room.
+    pub fn line(&self) -> Option<&[u32]> {
+        if self.is_over {
+            None
+        } else {
+            Some(self.words.as_slice())
+        }
     }
-}
 
-pub fn scan_bytes<W: Write>(
-    out: &mut W,
-    kind: Kind,
-    bytes: &[u8],
-    words: &mut Words,
-    floats: &mut Floats,
-    t: Tally,
-) -> Tally {
-    let mut at = t;
-    for b in bytes {
-        at = step(out, kind, *b, words, floats, at);
+    // Prints a line that differs. A write that fails is not told: what stands on standard output is short of it.
+    pub fn print<W: Write>(&self, out: &mut W) {
+        for word in self.words.as_slice() {
+            let _ = write!(out, "{word:08x} ");
+        }
+        let _ = out.write_all(b"differs\n");
     }
-    at
+
+    // Goes on to the next line.
+    pub fn clear(&mut self) {
+        self.words.clear();
+        self.word = 0;
+        self.is_over = false;
+    }
 }
