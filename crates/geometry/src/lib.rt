@@ -1,6 +1,8 @@
 // Points, vectors, normals, boxes and rays of floats, with the operations that a flat curve needs:
 // core/geometry and core/pbrt.rs of pbrt-rust, by their names and in their order of operations.
 // The Rust's generic types are structs of floats, and where it panics on a division by zero there is no answer.
+// An operator is written for each of them, as in the Rust: no macro of the repository may write an impl, and one struct for
+// points, vectors and normals would let them be mixed.
 #![tactic(auto)]
 
 mod bounds;

@@ -36,7 +36,7 @@ pub fn lerp<T: Interpolate>(t: f32, x: T, y: T) -> T
     x * (1.0 - t) + y * t
 }
 
-// A NaN passes through.
+// A NaN passes through. It is not the library's f32::clamp, which asks that `low` is no more than `high`.
 pub fn clamp(val: f32, low: f32, high: f32) -> f32
     ensures { result ≡ clamp_of val low high }
 {

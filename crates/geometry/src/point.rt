@@ -6,7 +6,7 @@ ghost use Rattle.std.proofs.Common.{rules};
 ghost use Rattle.geometry.specs.Pbrt.{lerp_of};
 ghost use Rattle.geometry.specs.Point.{point_from, difference2, plus, moved, difference, point_scaled, point_divided, least_of, greatest_of, point_lerp, points_equal};
 
-use crate::pbrt::{Interpolate, lerp};
+use crate::pbrt::Interpolate;
 use crate::vector::{Vector2f, Vector3f};
 use std::ops::{Add, Mul, Sub};
 
@@ -40,7 +40,8 @@ pub struct Point3f {
 // How many floats a point or a vector is.
 pub const POINT_FLOATS: usize = 3;
 
-// The point whose coordinates start at a place among floats. It asks that they are there: it reads for other crates.
+// The point whose coordinates start at a place among floats. It asks that they are there: it reads for other crates, and a
+// TryFrom could fail.
 pub fn point_from(s: &[f32], at: usize) -> Point3f
     requires { at + 3 ≤ length s.now }
     ensures { result ≡ point_from s.now at }
@@ -148,12 +149,5 @@ impl Point3f {
             y: float::max(self.y, p.y),
             z: float::max(self.z, p.z),
         }
-    }
-
-    // For who says the type: `geometry::lerp` at two points.
-    pub fn lerp(t: f32, x: Point3f, y: Point3f) -> Point3f
-        ensures { result ≡ point_lerp t x y }
-    {
-        lerp(t, x, y)
     }
 }

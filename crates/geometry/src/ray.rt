@@ -18,7 +18,7 @@ pub struct Ray {
 // How many floats a ray is: origin, direction, t_max, time.
 pub const RAY_FLOATS: usize = 8;
 
-// The ray whose floats start at a place. It asks that they are there: it reads for other crates.
+// The ray whose floats start at a place. It asks that they are there: it reads for other crates, and a TryFrom could fail.
 pub fn ray_from(s: &[f32], at: usize) -> Ray
     requires { at + ray_floats ≤ length s.now }
     ensures { result ≡ ray_from s.now at }
@@ -31,14 +31,21 @@ pub fn ray_from(s: &[f32], at: usize) -> Ray
     }
 }
 
+// As floats: ray_from reads it back.
+impl From<Ray> for [f32; RAY_FLOATS] {
+    ghost from_gives = { λ r v. v ≡ flat_ray r };
+
+    fn from(r: Ray) -> [f32; RAY_FLOATS] {
+        [r.o.x, r.o.y, r.o.z, r.d.x, r.d.y, r.d.z, r.t_max, r.time]
+    }
+}
+
 impl Ray {
-    // As floats: ray_from reads it back.
+    // For who says the type: From of the ray.
     pub fn flatten(self) -> [f32; RAY_FLOATS]
         ensures { result ≡ flat_ray self }
     {
-        [
-            self.o.x, self.o.y, self.o.z, self.d.x, self.d.y, self.d.z, self.t_max, self.time,
-        ]
+        self.into()
     }
 
     pub fn find_point(self, t: f32) -> Point3f

@@ -1,10 +1,10 @@
 // Vectors: core/geometry/vector.rs.
-#![tactic(auto, unfolding(crate::specs::Vector::vector_from, crate::specs::Vector::negated2, crate::specs::Vector::dot2, crate::specs::Vector::length_squared2, crate::specs::Vector::negated, crate::specs::Vector::scaled, crate::specs::Vector::divided, crate::specs::Vector::dot_of, crate::specs::Vector::absolute, crate::specs::Vector::length_squared, crate::specs::Vector::length_of, crate::specs::Vector::normalized, crate::specs::Vector::minor_of, crate::specs::Vector::cross_of, crate::specs::Vector::crossed_of, crate::specs::Vector::axes_of, crate::specs::Vector::coordinate_system))]
+#![tactic(auto, unfolding(crate::specs::Vector::vector_from, crate::specs::Point::point_from, crate::specs::Vector::negated2, crate::specs::Vector::dot2, crate::specs::Vector::length_squared2, crate::specs::Vector::negated, crate::specs::Vector::scaled, crate::specs::Vector::divided, crate::specs::Vector::dot_of, crate::specs::Vector::absolute, crate::specs::Vector::length_squared, crate::specs::Vector::length_of, crate::specs::Vector::normalized, crate::specs::Vector::minor_of, crate::specs::Vector::cross_of, crate::specs::Vector::crossed_of, crate::specs::Vector::axes_of, crate::specs::Vector::coordinate_system))]
 
 ghost use Rattle.std.specs.Prelude.{◌≡◌, ◌+◌, ◌≤◌, length};
 ghost use Rattle.geometry.specs.Vector.{vector_from, negated2, dot2, length_squared2, negated, scaled, divided, dot_of, absolute, length_squared, length_of, normalized, minor_of, vector_of, cross_of, crossed_of, coordinate_system};
 
-use crate::point::Point3f;
+use crate::point::{Point3f, point_from};
 use std::ops::{Mul, Neg};
 
 #[derive(Clone, Copy, Debug, PartialEq)]
@@ -26,6 +26,7 @@ impl Neg for Vector2f {
     }
 }
 
+// Beside those of a Vector3f, and not over an array of two or three: such a sum begins with a zero, which turns -0 into 0.
 impl Vector2f {
     pub fn dot(self, v: Vector2f) -> f32
         ensures { result ≡ dot2 self v }
@@ -52,11 +53,7 @@ pub fn vector_from(s: &[f32], at: usize) -> Vector3f
     requires { at + 3 ≤ length s.now }
     ensures { result ≡ vector_from s.now at }
 {
-    Vector3f {
-        x: s[at],
-        y: s[at + 1],
-        z: s[at + 2],
-    }
+    Vector3f::from(point_from(s, at))
 }
 
 // A point's vector from the origin.
@@ -101,7 +98,8 @@ impl Mul<f32> for Vector3f {
 }
 
 impl Vector3f {
-    // One reciprocal, and three products. There is none for a zero: there the Rust panics.
+    // One reciprocal, and three products. There is none for a zero: there the Rust panics. It stands for a point too, as one
+    // for both would need a trait that says what its product is, for this one line.
     pub fn div(self, k: f32) -> Option<Vector3f>
         ensures { result ≡ divided self k }
     {
