@@ -6,7 +6,7 @@ ghost use Rattle.create.specs.Shape.{degree_number, basis_number};
 
 use crate::shape::{Basis, Degree, Shape};
 use bezier::Cubic;
-use geometry::{Point3f, point_from};
+use geometry::{Point3f, lerp, point_from};
 
 // A quadratic curve as a cubic one.
 #[tactic(auto, unfolding(crate::specs::Basis::elevated))]
@@ -15,8 +15,8 @@ fn elevate(p0: Point3f, p1: Point3f, p2: Point3f) -> Cubic
 {
     Cubic {
         p0,
-        p1: Point3f::lerp(2.0 / 3.0, p0, p1),
-        p2: Point3f::lerp(1.0 / 3.0, p1, p2),
+        p1: lerp(2.0 / 3.0, p0, p1),
+        p2: lerp(1.0 / 3.0, p1, p2),
         p3: p2,
     }
 }
@@ -26,8 +26,8 @@ fn elevate(p0: Point3f, p1: Point3f, p2: Point3f) -> Cubic
 fn quadratic_spline(p01: Point3f, p12: Point3f, p23: Point3f) -> Cubic
     ensures { result ≡ quadratic_spline p01 p12 p23 }
 {
-    let p11 = Point3f::lerp(0.5, p01, p12);
-    let p22 = Point3f::lerp(0.5, p12, p23);
+    let p11 = lerp(0.5, p01, p12);
+    let p22 = lerp(0.5, p12, p23);
     elevate(p11, p12, p22)
 }
 
@@ -36,12 +36,12 @@ fn quadratic_spline(p01: Point3f, p12: Point3f, p23: Point3f) -> Cubic
 fn cubic_spline(p012: Point3f, p123: Point3f, p234: Point3f, p345: Point3f) -> Cubic
     ensures { result ≡ cubic_spline p012 p123 p234 p345 }
 {
-    let p122 = Point3f::lerp(2.0 / 3.0, p012, p123);
-    let p223 = Point3f::lerp(1.0 / 3.0, p123, p234);
-    let p233 = Point3f::lerp(2.0 / 3.0, p123, p234);
-    let p334 = Point3f::lerp(1.0 / 3.0, p234, p345);
-    let p222 = Point3f::lerp(0.5, p122, p223);
-    let p333 = Point3f::lerp(0.5, p233, p334);
+    let p122 = lerp(2.0 / 3.0, p012, p123);
+    let p223 = lerp(1.0 / 3.0, p123, p234);
+    let p233 = lerp(2.0 / 3.0, p123, p234);
+    let p334 = lerp(1.0 / 3.0, p234, p345);
+    let p222 = lerp(0.5, p122, p223);
+    let p333 = lerp(0.5, p233, p334);
     Cubic {
         p0: p222,
         p1: p223,
