@@ -101,6 +101,7 @@ impl From<Curve> for [f32; FLOATS] {
 
 /// A curve's record where it lies, which a walk lends to every step: to read the floats into a `Curve` costs a box and a
 /// beam that is thrown out 3 to 8 % more. A clause sees the `Curve` that they are.
+#[derive(Drop)]
 pub struct CurveRef<'a> {
     floats: &'a [f32; FLOATS],
 }

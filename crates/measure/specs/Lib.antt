@@ -1,4 +1,3 @@
-pub mod Answer
 pub mod Area
 pub mod Bound
 pub mod Price

@@ -1,31 +1,30 @@
 // The area of a curve.
-ghost use Rattle.std.specs.Prelude.{◌≡◌, ◌≤◌, length};
-ghost use Rattle.curve.specs.Layout.{floats, curve_from};
-ghost use Rattle.measure.specs.Area.{mean_width, area_in};
+#![tactic(auto, unfolding(crate::specs::Area::mean_width, crate::specs::Area::area_of, crate::specs::Area::area_in))]
+
+ghost use Rattle.std.specs.Prelude.{◌≡◌};
+ghost use Rattle.measure.specs.Area.{mean_width, area_of, area_in};
 
 use bezier::chords;
-use curve::{UMAX, UMIN, control_points, is_curve, width_at};
+use curve::CurveRef;
+use limits::Refusal;
 
-#[derive(Clone, Copy)]
-pub enum Measured {
-    Area(f32),
-    Refused(u8),
-}
-
-// The mean of the end widths. The slice is one that passed refusal 9.
-pub fn mean_width(s: &[f32]) -> f32
-    requires { floats ≤ length s.now }
-    ensures { result ≡ mean_width (curve_from s.now) }
+// The mean of the end widths.
+fn mean_width(curve: &CurveRef<'_>) -> f32
+    ensures { result ≡ mean_width curve.now }
 {
-    (width_at(s, s[UMIN]) + width_at(s, s[UMAX])) * 0.5
+    (curve.width_at(curve.umin()) + curve.width_at(curve.umax())) * 0.5
 }
 
-pub fn area(curve: &[f32]) -> Measured
+// Of a curve within the limits.
+pub fn area_of(curve: &CurveRef<'_>) -> f32
+    ensures { result ≡ area_of curve.now }
+{
+    chords(&curve.control_points()) * mean_width(curve)
+}
+
+pub fn area(curve: &[f32]) -> Result<f32, Refusal>
     ensures { result ≡ area_in curve.now }
 {
-    if is_curve(curve) {
-        Measured::Area(chords(&control_points(curve)) * mean_width(curve))
-    } else {
-        Measured::Refused(9)
-    }
+    let curve = CurveRef::try_from(curve)?;
+    Ok(area_of(&curve))
 }

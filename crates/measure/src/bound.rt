@@ -1,97 +1,64 @@
-// Boxes: object_bound and world_bound (01: the hall box).
-ghost use Rattle.std.specs.Prelude.{◌≡◌, ◌≤◌, length};
+// Boxes: object_bound and world_bound.
+#![tactic(auto, unfolding(crate::specs::Bound::widened, crate::specs::Bound::larger_width, crate::specs::Bound::bound_of, crate::specs::Bound::object_bound, crate::specs::Bound::world_bound_of, crate::specs::Bound::world_bound_refusals, crate::specs::Bound::world_bound, limits::specs::Refused::first_of, curve::specs::Curve::lent_refusals))]
+
+ghost use Rattle.std.specs.Prelude.{◌≡◌};
 ghost use Rattle.bezier.specs.Points.{cubic_in};
-ghost use Rattle.curve.specs.Layout.{floats, curve_from};
-ghost use Rattle.measure.specs.Bound.{bounds_in, widened, larger_width, object_bound, world_bound_of, world_bound};
+ghost use Rattle.measure.specs.Bound.{widened, larger_width, bound_of, object_bound, world_bound};
 
 use bezier::{POINTS, corners_of};
-use curve::{UMAX, UMIN, control_points, is_curve, width_at};
-use geometry::{Bounds3f, point_from};
-use limits::is_matrix_within;
+use curve::CurveRef;
+use geometry::{Bounds3f, Point3f};
+use limits::{Refusal, is_matrix_within};
 use matrix::Matrix4x4;
-use transform::{TransformedBounds, transform_bounds};
+use transform::transform_bounds;
 
-#[derive(Clone, Copy)]
-pub enum Bound {
-    Bounds(Bounds3f),
-    Refused(u8),
-}
-
-// The larger end width. The slice is one that passed refusal 9.
-fn larger_width(s: &[f32]) -> f32
-    requires { floats ≤ length s.now }
-    ensures { result ≡ larger_width (curve_from s.now) }
+// The larger end width.
+fn larger_width(curve: &CurveRef<'_>) -> f32
+    ensures { result ≡ larger_width curve.now }
 {
-    float::max(width_at(s, s[UMIN]), width_at(s, s[UMAX]))
+    float::max(curve.width_at(curve.umin()), curve.width_at(curve.umax()))
 }
 
-// Both corners of a box, four floats each as the points have them: so they are widened and written as one.
-const CORNERS: usize = 8;
-
-const LOWER: usize = 0;
-
-const UPPER: usize = 4;
-
-// The box of control points, widened by half a width. It is given these and not the slice, which would be copied for the
-// next call and waited for.
-fn widened_corners(p: &[f32; POINTS], width: f32) -> [f32; CORNERS]
-    ensures { bounds_in result ≡ widened (cubic_in p.now) width }
+// The box of control points, widened by half a width. It is given these and not the curve, which would be waited for.
+fn widened(p: &[f32; POINTS], width: f32) -> Bounds3f
+    ensures { result ≡ widened (cubic_in p.now) width }
 {
     let c = corners_of(p);
     let delta = width * 0.5;
-    [
-        c.x.least - delta,
-        c.y.least - delta,
-        c.z.least - delta,
-        c.fourth.least - delta,
-        c.x.greatest + delta,
-        c.y.greatest + delta,
-        c.z.greatest + delta,
-        c.fourth.greatest + delta,
-    ]
-}
-
-fn bounds_in(c: &[f32; CORNERS]) -> Bounds3f
-    ensures { result ≡ bounds_in c.now }
-{
     Bounds3f {
-        p_min: point_from(c, LOWER),
-        p_max: point_from(c, UPPER),
+        p_min: Point3f {
+            x: c.x.least - delta,
+            y: c.y.least - delta,
+            z: c.z.least - delta,
+        },
+        p_max: Point3f {
+            x: c.x.greatest + delta,
+            y: c.y.greatest + delta,
+            z: c.z.greatest + delta,
+        },
     }
 }
 
-pub fn object_bound(curve: &[f32]) -> Bound
+// The box of a curve within the limits.
+fn bound_of(curve: &CurveRef<'_>) -> Bounds3f
+    ensures { result ≡ bound_of curve.now }
+{
+    widened(&curve.control_points(), larger_width(curve))
+}
+
+pub fn object_bound(curve: &[f32]) -> Result<Bounds3f, Refusal>
     ensures { result ≡ object_bound curve.now }
 {
-    if is_curve(curve) {
-        Bound::Bounds(bounds_in(&widened_corners(&control_points(curve), larger_width(curve))))
-    } else {
-        Bound::Refused(9)
-    }
+    let curve = CurveRef::try_from(curve)?;
+    Ok(bound_of(&curve))
 }
 
-// That box in the world.
-fn curve_world_bound(s: &[f32], m: Matrix4x4) -> Bound
-    requires { floats ≤ length s.now }
-    ensures { result ≡ world_bound_of (curve_from s.now) m }
-{
-    match transform_bounds(
-        m,
-        bounds_in(&widened_corners(&control_points(s), larger_width(s))),
-    ) {
-        TransformedBounds::Bounds(b) => Bound::Bounds(b),
-        TransformedBounds::ZeroWeight => Bound::Refused(12),
-    }
-}
-
-pub fn world_bound(curve: &[f32], object_to_world: Matrix4x4) -> Bound
+pub fn world_bound(curve: &[f32], object_to_world: Matrix4x4) -> Result<Bounds3f, Refusal>
     ensures { result ≡ world_bound curve.now object_to_world }
 {
-    if !is_curve(curve) {
-        Bound::Refused(9)
-    } else if !is_matrix_within(object_to_world) {
-        Bound::Refused(10)
-    } else {
-        curve_world_bound(curve, object_to_world)
+    let curve = CurveRef::try_from(curve)?;
+    if !is_matrix_within(object_to_world) {
+        return Err(Refusal::Matrix);
     }
+    transform_bounds(object_to_world, bound_of(&curve)).ok_or(Refusal::ZeroWeight)
 }

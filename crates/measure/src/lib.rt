@@ -6,6 +6,6 @@ mod areas;
 mod bound;
 mod prices;
 
-pub use areas::{Measured, area};
-pub use bound::{Bound, object_bound, world_bound};
-pub use prices::{Priced, price};
+pub use areas::area;
+pub use bound::{object_bound, world_bound};
+pub use prices::price;
