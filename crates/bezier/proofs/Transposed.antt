@@ -1,7 +1,7 @@
 -- Nothing is lost between points and coordinates, and what is done to points is done to each coordinate on its own. Assumes nothing.
 use Prim.Native.Nat.{ℕ, zero, suc, ◌≤◌}
 use mathlib.Core.Path.{◌≡◌, refl}
-use mathlib.Core.Bool.{cond}
+use mathlib.Core.Bool.{Bool, true, false, cond}
 use mathlib.Core.List.{List}
 use native.Mathlib.Omega.{arith}
 use lib.Ieee.{Float, lt}
@@ -34,14 +34,20 @@ high_by_axes l = refl
 
 -- ---- the point and the derivative
 
+-- which of two vectors, coordinate by coordinate
+chosen : (t : Bool) (a b c d e f : Float) → cond t (vector_of a b c) (vector_of d e f) ≡ vector_of (cond t a d) (cond t b e) (cond t c f)
+chosen true a b c d e f = refl
+chosen false a b c d e f = refl
+
 -- from the three coordinates
 abbrev pub eval_by : Step → Step → Step → Eval
 eval_by x y z =
+    let moves = lt 0f (x.d ⊗ x.d ⊕ y.d ⊗ y.d ⊕ z.d ⊗ z.d) in
     record {
       p = record { x = x.p; y = y.p; z = z.p };
-      d = cond (lt 0f (x.d ⊗ x.d ⊕ y.d ⊗ y.d ⊕ z.d ⊗ z.d)) (vector_of (x.d ⊗ 3f) (y.d ⊗ 3f) (z.d ⊗ 3f)) (vector_of x.chord y.chord z.chord);
+      d = vector_of (cond moves (x.d ⊗ 3f) x.chord) (cond moves (y.d ⊗ 3f) y.chord) (cond moves (z.d ⊗ 3f) z.chord);
     }
 
 pub eval_by_axes : (l : List Float) (u : Float) → eval_of (cubic_in l) u ≡ eval_by (eval_at (axis_in l 0) u) (eval_at (axis_in l 1) u) (eval_at (axis_in l 2) u)
 unfolding eval_of eval_at axis_in cubic_in point_from point_lerp derivative_of difference length_squared scaled
-eval_by_axes l u = refl
+eval_by_axes l u = rw chosen

@@ -1,11 +1,13 @@
 // One coordinate of a curve's control points. Each goes through the arithmetic on its own: no coordinate asks for another,
 // and four of them side by side (`points`) become one instruction.
+#![tactic(auto, unfolding(crate::specs::Axis::blossom_at, crate::specs::Axis::between, crate::specs::Axis::average_at2, crate::specs::Axis::average_at3, crate::specs::Axis::average_at4, crate::specs::Axis::low_at, crate::specs::Axis::high_at, crate::specs::Axis::eval_at))]
+
 ghost use Rattle.std.specs.Prelude.{◌≡◌};
 ghost use Rattle.bezier.specs.Axis.{blossom_at, between, average_at2, average_at3, average_at4, low_at, high_at, eval_at};
 
 use geometry::lerp;
 
-#[derive(Clone, Copy)]
+#[derive(Clone, Copy, Debug, PartialEq)]
 pub struct Axis {
     pub p0: f32,
     pub p1: f32,
@@ -36,7 +38,8 @@ pub fn part(p: Axis, umin: f32, umax: f32) -> Axis
     }
 }
 
-// The control points of a half are averages of the whole's, weighted 1 1, 1 2 1 and 1 3 3 1.
+// The control points of a half are averages of the whole's, weighted 1 1, 1 2 1 and 1 3 3 1: three formulas, since no loop
+// over the weights adds in their order.
 fn average2(a: f32, b: f32) -> f32
     ensures { result ≡ average_at2 a b }
 {
@@ -56,31 +59,28 @@ fn average4(a: f32, b: f32, c: f32, d: f32) -> f32
 }
 
 // The half at the start, and the half at the end.
-pub fn low(p: Axis) -> Axis
-    ensures { result ≡ low_at p }
+pub fn subdivide(p: Axis) -> (Axis, Axis)
+    ensures { result ≡ (low_at p, high_at p) }
 {
-    Axis {
+    let middle = average4(p.p0, p.p1, p.p2, p.p3);
+    let low = Axis {
         p0: p.p0,
         p1: average2(p.p0, p.p1),
         p2: average3(p.p0, p.p1, p.p2),
-        p3: average4(p.p0, p.p1, p.p2, p.p3),
-    }
-}
-
-pub fn high(p: Axis) -> Axis
-    ensures { result ≡ high_at p }
-{
-    Axis {
-        p0: average4(p.p0, p.p1, p.p2, p.p3),
+        p3: middle,
+    };
+    let high = Axis {
+        p0: middle,
         p1: average3(p.p1, p.p2, p.p3),
         p2: average2(p.p2, p.p3),
         p3: p.p3,
-    }
+    };
+    (low, high)
 }
 
 // The curve's coordinate at a parameter, the step between the last two points of the construction, and that from the
 // first control point to the last.
-#[derive(Clone, Copy)]
+#[derive(Clone, Copy, Debug, PartialEq)]
 pub struct Step {
     pub p: f32,
     pub d: f32,

@@ -1,13 +1,15 @@
 // The two corners of the box of four points, found in one pass over them.
-ghost use Rattle.std.specs.Prelude.{◌≡◌};
+#![tactic(auto, unfolding(crate::specs::Corners::corners_at, crate::specs::Corners::corners_with))]
+
+ghost use Rattle.std.specs.Prelude.{◌≡◌, IsTrue};
 ghost use Rattle.bezier.specs.Points.{cubic_in};
 ghost use Rattle.bezier.specs.Corners.{corners_at, corners_with, AllNumbers, lower_in, upper_in, lower_corner, upper_corner};
 
-use crate::extent::Extent;
+use crate::extent::{ANY, Extent, NUMBERS};
 use crate::points::{P0, P1, P2, P3, POINTS, PaddedPoint, padded_in};
 
 // Both corners, coordinate by coordinate. The fourth is that of the points.
-#[derive(Clone, Copy)]
+#[derive(Clone, Copy, Debug, PartialEq)]
 pub struct Corners {
     pub x: Extent,
     pub y: Extent,
@@ -27,27 +29,15 @@ impl Corners {
         }
     }
 
-    fn union_point(self, p: PaddedPoint) -> Corners
+    fn union_point<const ARE_NUMBERS: bool>(self, p: PaddedPoint) -> Corners
+        requires { IsTrue ARE_NUMBERS → AllNumbers self }
         ensures { result ≡ corners_with self p }
     {
         Corners {
-            x: self.x.union_value(p.x),
-            y: self.y.union_value(p.y),
-            z: self.z.union_value(p.z),
-            fourth: self.fourth.union_value(p.fourth),
-        }
-    }
-
-    // The same where all are known to be numbers.
-    fn union_of_numbers(self, p: PaddedPoint) -> Corners
-        requires { AllNumbers self }
-        ensures { result ≡ corners_with self p }
-    {
-        Corners {
-            x: self.x.union_of_numbers(p.x),
-            y: self.y.union_of_numbers(p.y),
-            z: self.z.union_of_numbers(p.z),
-            fourth: self.fourth.union_of_numbers(p.fourth),
+            x: self.x.union_value::<ARE_NUMBERS>(p.x),
+            y: self.y.union_value::<ARE_NUMBERS>(p.y),
+            z: self.z.union_value::<ARE_NUMBERS>(p.z),
+            fourth: self.fourth.union_value::<ARE_NUMBERS>(p.fourth),
         }
     }
 }
@@ -65,9 +55,12 @@ pub fn corners_of(p: &[f32; POINTS]) -> Corners
     let p3 = padded_in(p, P3);
     let first = Corners::from_point(p0);
     if (p0.x != p0.x) | (p0.y != p0.y) | (p0.z != p0.z) | (p0.fourth != p0.fourth) {
-        first.union_point(p1).union_point(p2).union_point(p3)
+        first
+            .union_point::<ANY>(p1)
+            .union_point::<ANY>(p2)
+            .union_point::<ANY>(p3)
     } else {
-        let third = first.union_of_numbers(p1).union_of_numbers(p2);
-        third.union_of_numbers(p3)
+        let third = first.union_point::<NUMBERS>(p1).union_point::<NUMBERS>(p2);
+        third.union_point::<NUMBERS>(p3)
     }
 }

@@ -2,7 +2,7 @@
 use geometry::{Point3f, Vector3f};
 
 // The four control points.
-#[derive(Clone, Copy)]
+#[derive(Clone, Copy, Debug, PartialEq)]
 pub struct Cubic {
     pub p0: Point3f,
     pub p1: Point3f,
@@ -11,7 +11,7 @@ pub struct Cubic {
 }
 
 // A curve's point at a parameter, and its derivative there.
-#[derive(Clone, Copy)]
+#[derive(Clone, Copy, Debug, PartialEq)]
 pub struct Eval {
     pub p: Point3f,
     pub d: Vector3f,

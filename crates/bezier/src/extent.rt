@@ -1,5 +1,7 @@
 // The least and the greatest of some values, carried along together from one value to the next.
-ghost use Rattle.std.specs.Prelude.{◌≡◌, false};
+#![tactic(auto, unfolding(float::specs::Basic::min_of, float::specs::Basic::max_of, crate::specs::Axis::least_in, crate::specs::Axis::greatest_in, crate::specs::Extent::extent_at, crate::specs::Extent::extent_union, crate::specs::Extent::extent_with))]
+
+ghost use Rattle.std.specs.Prelude.{◌≡◌, false, IsTrue};
 ghost use Rattle.std.specs.Float.Ieee.{is_nan};
 ghost use Rattle.float.specs.Basic.{max_of, min_of};
 ghost use Rattle.bezier.specs.Axis.{least_in, greatest_in};
@@ -7,26 +9,40 @@ ghost use Rattle.bezier.specs.Extent.{extent_at, extent_with, extent_union, Numb
 
 use crate::axis::Axis;
 
-#[derive(Clone, Copy)]
+#[derive(Clone, Copy, Debug, PartialEq)]
 pub struct Extent {
     pub least: f32,
     pub greatest: f32,
 }
 
-// `min` and `max` where the first is known to be a number: one comparison.
-fn min_of_number(a: f32, b: f32) -> f32
-    requires { is_nan a ≡ false }
+// `min` and `max`. Where the first is known to be a number, one comparison is enough.
+fn min<const IS_NUMBER: bool>(a: f32, b: f32) -> f32
+    requires { IsTrue IS_NUMBER → is_nan a ≡ false }
     ensures { result ≡ min_of a b }
 {
-    if b < a { b } else { a }
+    if IS_NUMBER {
+        if b < a { b } else { a }
+    } else {
+        float::min(a, b)
+    }
 }
 
-pub fn max_of_number(a: f32, b: f32) -> f32
-    requires { is_nan a ≡ false }
+pub fn max<const IS_NUMBER: bool>(a: f32, b: f32) -> f32
+    requires { IsTrue IS_NUMBER → is_nan a ≡ false }
     ensures { result ≡ max_of a b }
 {
-    if a < b { b } else { a }
+    if IS_NUMBER {
+        if a < b { b } else { a }
+    } else {
+        float::max(a, b)
+    }
 }
+
+// Of values that are known to be numbers, or that may be anything. A type for numbers would be no plainer: it would stand
+// beside f32 in all that is below, with a way there and back.
+pub const NUMBERS: bool = true;
+
+pub const ANY: bool = false;
 
 impl Extent {
     pub fn from_value(v: f32) -> Extent
@@ -38,47 +54,45 @@ impl Extent {
         }
     }
 
-    pub fn union_value(self, v: f32) -> Extent
-        ensures { result ≡ extent_with self v }
-    {
-        Extent {
-            least: float::min(self.least, v),
-            greatest: float::max(self.greatest, v),
-        }
-    }
-
-    // Of two together, where those of the first are known to be numbers.
-    fn union_extent(self, e: Extent) -> Extent
-        requires { Numbers self }
+    // Of two together.
+    fn union_extent<const ARE_NUMBERS: bool>(self, e: Extent) -> Extent
+        requires { IsTrue ARE_NUMBERS → Numbers self }
         ensures { result ≡ extent_union self e }
     {
         Extent {
-            least: min_of_number(self.least, e.least),
-            greatest: max_of_number(self.greatest, e.greatest),
+            least: min::<ARE_NUMBERS>(self.least, e.least),
+            greatest: max::<ARE_NUMBERS>(self.greatest, e.greatest),
         }
     }
 
-    // `union_value` where both are known to be numbers.
-    pub fn union_of_numbers(self, v: f32) -> Extent
-        requires { Numbers self }
+    pub fn union_value<const ARE_NUMBERS: bool>(self, v: f32) -> Extent
+        requires { IsTrue ARE_NUMBERS → Numbers self }
         ensures { result ≡ extent_with self v }
     {
-        self.union_extent(Extent::from_value(v))
+        self.union_extent::<ARE_NUMBERS>(Extent::from_value(v))
     }
 }
 
-// That of a coordinate, by pairs: neither waits for the other. Where the first of each pair is a number, so is all that is
-// carried, and no other NaN matters.
+// By pairs: neither waits for the other. A call would send what is found through memory.
+#[inline(always)]
+fn extent_by_pairs<const ARE_NUMBERS: bool>(a: Axis) -> Extent
+    requires { IsTrue ARE_NUMBERS → (is_nan a.p0 ≡ false) × (is_nan a.p2 ≡ false) }
+    ensures least_value { result.least ≡ least_in a }
+    ensures greatest_value { result.greatest ≡ greatest_in a }
+{
+    let first = Extent::from_value(a.p0).union_value::<ARE_NUMBERS>(a.p1);
+    let second = Extent::from_value(a.p2).union_value::<ARE_NUMBERS>(a.p3);
+    first.union_extent::<ARE_NUMBERS>(second)
+}
+
+// That of a coordinate. Where the first of each pair is a number, so is all that is carried, and no other NaN matters.
 pub fn extent_of(a: Axis) -> Extent
     ensures least_value { result.least ≡ least_in a }
     ensures greatest_value { result.greatest ≡ greatest_in a }
 {
     if (a.p0 != a.p0) | (a.p2 != a.p2) {
-        let first = Extent::from_value(a.p0);
-        first.union_value(a.p1).union_value(a.p2).union_value(a.p3)
+        extent_by_pairs::<ANY>(a)
     } else {
-        let first = Extent::from_value(a.p0).union_of_numbers(a.p1);
-        let second = Extent::from_value(a.p2).union_of_numbers(a.p3);
-        first.union_extent(second)
+        extent_by_pairs::<NUMBERS>(a)
     }
 }

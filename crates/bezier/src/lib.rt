@@ -12,9 +12,9 @@ mod polygon;
 pub use axis::{Axis, part};
 pub use corners::{Corners, corners_of};
 pub use cubic::{Cubic, Eval};
-pub use extent::{Extent, extent_of, max_of_number};
+pub use extent::{ANY, Extent, NUMBERS, extent_of, max};
 pub use points::{
     EVAL, POINTS, axis_in, cubic_in, eval_bezier, eval_in, high_half, low_half, points_by,
-    points_of,
+    points_of, subdivide_bezier,
 };
 pub use polygon::chords;

@@ -1,12 +1,15 @@
 // Control points as floats that are lent: four a point, x, y, z and one that nothing asks for. The fourth goes through the
 // arithmetic with the others, so that a point is one load, one instruction and one store; points of three floats would be
 // taken apart and put together at every step. Nothing else knows the places.
-ghost use Rattle.std.specs.Prelude.{◌≡◌, ◌+◌, ◌≤◌};
+#![tactic(auto, unfolding(crate::specs::Points::axis_in, crate::specs::Points::padded_in, crate::specs::Points::cubic_in, crate::specs::Points::eval_in, crate::specs::Polygon::cubic_of, geometry::specs::Point::point_from, geometry::specs::Vector::vector_from))]
+
+ghost use Rattle.std.specs.Prelude.{◌≡◌, ◌+◌, ◌≤◌, if◌then◌else◌};
+ghost use Rattle.float.specs.Arith.{◌⊗◌, 3f};
 ghost use Rattle.bezier.specs.Cubic.{low_of, high_of, eval_of};
 ghost use Rattle.bezier.specs.Points.{axis_in, cubic_in, eval_in, padded_in};
 ghost use Rattle.bezier.specs.Polygon.{cubic_of};
 
-use crate::axis::{Axis, eval_at, high, low};
+use crate::axis::{Axis, Step, eval_at, subdivide};
 use crate::cubic::{Cubic, Eval};
 use geometry::{point_from, vector_from};
 
@@ -85,28 +88,31 @@ pub fn cubic_in(p: &[f32; POINTS]) -> Cubic
     }
 }
 
-// subdivide_bezier: the half at the start, cp_split[0..4].
-pub fn low_half(p: &[f32; POINTS]) -> [f32; POINTS]
-    ensures { cubic_in result ≡ low_of (cubic_in p.now) }
+// subdivide_bezier: the half at the start, cp_split[0..4], and the half at the end, cp_split[3..7].
+pub fn subdivide_bezier(p: &[f32; POINTS]) -> ([f32; POINTS], [f32; POINTS])
+    ensures low { cubic_in result.0 ≡ low_of (cubic_in p.now) }
+    ensures high { cubic_in result.1 ≡ high_of (cubic_in p.now) }
 {
-    points_by(
-        low(axis_in(p, 0)),
-        low(axis_in(p, 1)),
-        low(axis_in(p, 2)),
-        low(axis_in(p, 3)),
+    let x = subdivide(axis_in(p, 0));
+    let y = subdivide(axis_in(p, 1));
+    let z = subdivide(axis_in(p, 2));
+    let fourth = subdivide(axis_in(p, 3));
+    (
+        points_by(x.0, y.0, z.0, fourth.0),
+        points_by(x.1, y.1, z.1, fourth.1),
     )
 }
 
-// And the half at the end, cp_split[3..7].
+pub fn low_half(p: &[f32; POINTS]) -> [f32; POINTS]
+    ensures { cubic_in result ≡ low_of (cubic_in p.now) }
+{
+    subdivide_bezier(p).0
+}
+
 pub fn high_half(p: &[f32; POINTS]) -> [f32; POINTS]
     ensures { cubic_in result ≡ high_of (cubic_in p.now) }
 {
-    points_by(
-        high(axis_in(p, 0)),
-        high(axis_in(p, 1)),
-        high(axis_in(p, 2)),
-        high(axis_in(p, 3)),
-    )
+    subdivide_bezier(p).1
 }
 
 // The point and the derivative of eval_bezier, four floats each.
@@ -116,6 +122,13 @@ const POINT: usize = 0;
 
 const DERIVATIVE: usize = 4;
 
+// A coordinate of the derivative, by whether the last two points of the construction differ.
+fn derivative(s: Step, moves: bool) -> f32
+    ensures { result ≡ (if moves then s.d ⊗ 3f else s.chord) }
+{
+    if moves { s.d * 3.0 } else { s.chord }
+}
+
 // The derivative comes from the last two points of the construction. Where they coincide it is the chord.
 pub fn eval_bezier(p: &[f32; POINTS], u: f32) -> [f32; EVAL]
     ensures { eval_in result ≡ eval_of (cubic_in p.now) u }
@@ -124,29 +137,17 @@ pub fn eval_bezier(p: &[f32; POINTS], u: f32) -> [f32; EVAL]
     let y = eval_at(axis_in(p, 1), u);
     let z = eval_at(axis_in(p, 2), u);
     let fourth = eval_at(axis_in(p, 3), u);
-    if x.d * x.d + y.d * y.d + z.d * z.d > 0.0 {
-        [
-            x.p,
-            y.p,
-            z.p,
-            fourth.p,
-            x.d * 3.0,
-            y.d * 3.0,
-            z.d * 3.0,
-            fourth.d * 3.0,
-        ]
-    } else {
-        [
-            x.p,
-            y.p,
-            z.p,
-            fourth.p,
-            x.chord,
-            y.chord,
-            z.chord,
-            fourth.chord,
-        ]
-    }
+    let moves = x.d * x.d + y.d * y.d + z.d * z.d > 0.0;
+    [
+        x.p,
+        y.p,
+        z.p,
+        fourth.p,
+        derivative(x, moves),
+        derivative(y, moves),
+        derivative(z, moves),
+        derivative(fourth, moves),
+    ]
 }
 
 pub fn eval_in(e: &[f32; EVAL]) -> Eval

@@ -1,4 +1,6 @@
 // The control polygon of a curve.
+#![tactic(auto, unfolding(geometry::specs::Vector::length_squared, geometry::specs::Vector::length_of, geometry::specs::Point::point_from, geometry::specs::Point::distance_of, geometry::specs::Point::difference, crate::specs::Cubic::chords_of, crate::specs::Points::cubic_in, crate::specs::Points::axis_in))]
+
 ghost use Rattle.std.specs.Prelude.{◌≡◌};
 ghost use Rattle.geometry.specs.Vector.{vector_of, length_squared};
 ghost use Rattle.bezier.specs.Points.{cubic_in};

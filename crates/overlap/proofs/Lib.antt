@@ -1,2 +1,3 @@
 pub mod DepthMost
 pub mod Lent
+mod ThrownBy

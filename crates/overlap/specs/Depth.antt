@@ -1,4 +1,4 @@
--- The depth of refinement (01: Depth): how often a curve is cut in two. Definitions only. Callers cite `depth_of` alone.
+-- The depth of refinement: how often a curve is cut in two. Definitions only. Callers cite `depth_of` alone.
 use Rattle.std.specs.Prelude.{cond, ℕ, ◌+◌, ◌-◌, ◌/◌, ◌%◌, ◌^◌, min, Float}
 use Rattle.std.specs.Float.{binary32}
 use Rattle.std.specs.Float.Ieee.{of_bits, to_bits, lt}

@@ -1,4 +1,4 @@
--- Parts of a curve in the ray's frame (01: the pieces of the walk), and their halves. Definitions only.
+-- Parts of a curve in the ray's frame, the pieces of the walk, and their halves. Definitions only.
 use Rattle.std.specs.Prelude.{List, Float}
 use Rattle.float.specs.Arith.{◌⊕◌, ◌⊘◌, 2f}
 use Rattle.bezier.specs.declared.cubic.Cubic.{Cubic}

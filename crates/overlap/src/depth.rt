@@ -1,9 +1,13 @@
 // The depth of refinement: how often a curve is cut in two.
-ghost use Rattle.std.specs.Prelude.{◌≡◌, ◌≤◌, length};
-ghost use Rattle.curve.specs.Layout.{floats, curve_from};
-ghost use Rattle.overlap.specs.Depth.{bend, bends_at, greatest_bend, flatness, exponent_of, log_of, depth_at, depth_of};
+#![tactic(auto, unfolding(crate::specs::Depth::bend, crate::specs::Depth::bends_at, crate::specs::Depth::greatest_bend, crate::specs::Depth::exponent_of, crate::specs::Depth::log_of, crate::specs::Depth::depth_at))]
 
-use bezier::{Cubic, max_of_number};
+ghost use Rattle.std.specs.Prelude.{◌≡◌, ◌≤◌, false, length, IsTrue};
+ghost use Rattle.std.specs.Float.Ieee.{is_nan};
+ghost use Rattle.float.specs.Basic.{max_of};
+ghost use Rattle.curve.specs.Layout.{floats, curve_from};
+ghost use Rattle.overlap.specs.Depth.{bend, bends_at, greatest_bend, flatness, log_of, depth_at, depth_of};
+
+use bezier::{ANY, Cubic, NUMBERS, max};
 use curve::{WIDTH0, WIDTH1};
 use geometry::Point3f;
 
@@ -15,6 +19,13 @@ fn second_difference(a: f32, b: f32, c: f32) -> f32
 }
 
 // Where the first is a number, no other NaN matters.
+fn largest_of_three<const IS_NUMBER: bool>(x: f32, y: f32, z: f32) -> f32
+    requires { IsTrue IS_NUMBER → is_nan x ≡ false }
+    ensures { result ≡ max_of (max_of x y) z }
+{
+    max::<IS_NUMBER>(max::<IS_NUMBER>(x, y), z)
+}
+
 fn largest_of(a: Point3f, b: Point3f, c: Point3f) -> f32
     ensures { result ≡ bends_at a b c }
 {
@@ -22,9 +33,9 @@ fn largest_of(a: Point3f, b: Point3f, c: Point3f) -> f32
     let y = second_difference(a.y, b.y, c.y);
     let z = second_difference(a.z, b.z, c.z);
     if x != x {
-        float::max(float::max(x, y), z)
+        largest_of_three::<ANY>(x, y, z)
     } else {
-        max_of_number(max_of_number(x, y), z)
+        largest_of_three::<NUMBERS>(x, y, z)
     }
 }
 
@@ -32,8 +43,8 @@ fn largest_of(a: Point3f, b: Point3f, c: Point3f) -> f32
 fn largest_second_difference(cp: Cubic) -> f32
     ensures { result ≡ greatest_bend cp }
 {
-    let first = max_of_number(0.0, largest_of(cp.p0, cp.p1, cp.p2));
-    max_of_number(first, largest_of(cp.p1, cp.p2, cp.p3))
+    let first = max::<NUMBERS>(0.0, largest_of(cp.p0, cp.p1, cp.p2));
+    max::<NUMBERS>(first, largest_of(cp.p1, cp.p2, cp.p3))
 }
 
 fn flatness_ratio(curve: &[f32], cp: Cubic) -> f32
@@ -44,13 +55,7 @@ fn flatness_ratio(curve: &[f32], cp: Cubic) -> f32
     1.41421356237 * 6.0 * largest_second_difference(cp) / (8.0 * eps)
 }
 
-// A float's exponent from its exponent field, for a float that is not below 1.
-fn exponent(field: u32) -> u32
-    ensures { result ≡ exponent_of field }
-{
-    if field < 127 { 0 } else { field - 127 }
-}
-
+// 0 below 1, else the exponent plus the lowest bit of the pattern.
 fn log2(v: f32) -> u32
     ensures { result ≡ log_of v }
 {
@@ -58,7 +63,7 @@ fn log2(v: f32) -> u32
         0
     } else {
         let bits = float::to_bits(v);
-        exponent(bits / 8388608) + bits % 2
+        (bits / 8388608).saturating_sub(127) + bits % 2
     }
 }
 
@@ -66,8 +71,7 @@ fn log2(v: f32) -> u32
 fn depth_at(v: f32) -> u32
     ensures { result ≡ depth_at v }
 {
-    let depth = log2(v) / 2;
-    if depth < 10 { depth } else { 10 }
+    (log2(v) / 2).min(10)
 }
 
 // The curve is one that passed refusal 9, and cp are its control points in the ray's frame.

@@ -9,4 +9,4 @@ mod thrown;
 
 pub use depth::max_depth;
 pub use subcurve::{Subcurve, middle, whole};
-pub use thrown::{half_width, is_thrown, is_whole_thrown};
+pub use thrown::{HALF, WHOLE, half_width, is_thrown};

@@ -1,4 +1,6 @@
 // Parts of a curve in the ray's frame.
+#![tactic(auto, unfolding(crate::specs::Subcurve::middle_of))]
+
 ghost use Rattle.std.specs.Prelude.{◌≡◌, ◌≤◌, length};
 ghost use Rattle.curve.specs.Layout.{floats, curve_from};
 ghost use Rattle.overlap.specs.Subcurve.{whole_of, middle_of};
@@ -6,8 +8,8 @@ ghost use Rattle.overlap.specs.Subcurve.{whole_of, middle_of};
 use bezier::Cubic;
 use curve::{UMAX, UMIN};
 
-// The control points in the ray's frame, and the parameters at the ends (01: a piece of the walk, and
-// after the last cut a sliver).
+// The control points in the ray's frame, and the parameters at the ends: a piece of the walk, and after the last cut a
+// sliver.
 #[derive(Clone, Copy)]
 pub struct Subcurve {
     pub cp: Cubic,
