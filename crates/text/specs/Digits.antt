@@ -23,6 +23,6 @@ four_text h = digit_char (h / 4096 % 16) ∷ digit_char (h / 256 % 16) ∷ digit
 unfoldable pub hex_text : ℕ → List ℕ
 hex_text w = four_text (w / 65536) ++ four_text (w % 65536)
 
--- the bits of a float (01: "eight lower hexadecimal digits of the bits"): a NaN's are 7fc00000
+-- the bits of a float, by eight hexadecimal digits in lower case: a NaN's are 7fc00000
 unfoldable pub float_text : Float → List ℕ
 float_text x = hex_text (to_bits binary32 x)

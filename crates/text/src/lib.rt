@@ -1,8 +1,8 @@
-// Text as bytes: digits and words, read by place and put into a slice that is lent.
+// Text as bytes: digits and words, read by place and put into a buffer that is lent.
 #![tactic(auto)]
 
+mod buffer;
 mod read;
-mod write;
 
-pub use read::{digit, digit_at, is_byte, is_word, stands_at, word_at};
-pub use write::{put_decimal, put_float, put_word};
+pub use buffer::Buffer;
+pub use read::{digit, digit_at, is_byte, stands_at, word_at};

@@ -1,0 +1,96 @@
+// Text put into a buffer that is lent, as much as fits.
+ghost use Rattle.std.specs.Prelude.{◌≡◌, [], ◌∷◌, ◌-◌, ◌<◌, length};
+ghost use Rattle.text.specs.Digits.{digit_char, decimal_text, hex_text, float_text};
+ghost use Rattle.text.specs.Put.{Puts};
+
+/// A buffer that is lent, and the place behind what was put into it.
+#[derive(Drop)]
+pub struct Buffer<'a> {
+    pub bytes: &'a mut [u8],
+    pub end: usize,
+}
+
+impl<'a> Buffer<'a> {
+    /// From the start of the bytes on.
+    pub fn new(bytes: &'a mut [u8]) -> Buffer<'a>
+        ensures same_buffer { result.bytes.ghost_name ≡ bytes.entry.ghost_name }
+        ensures bytes { result.bytes.now ≡ bytes.old }
+        ensures end { result.end ≡ 0 }
+    {
+        Buffer { bytes, end: 0 }
+    }
+
+    /// How many bytes there is room for.
+    pub fn room(&self) -> usize
+        ensures { result ≡ length self.now.bytes.now - self.now.end }
+    {
+        self.bytes.len().saturating_sub(self.end)
+    }
+
+    pub fn put_word(&mut self, word: &[u8])
+        ensures { Puts self.old self.new word.now }
+    {
+        let from = self.end.min(self.bytes.len());
+        let n = word.len().min(self.bytes.len() - from);
+        self.bytes[from..from + n].copy_from_slice(&word[..n]);
+        self.end += n;
+    }
+
+    fn put_digit(&mut self, d: u32)
+        requires { d < 16 }
+        ensures { Puts self.old self.new (digit_char d ∷ []) }
+    {
+        self.put_word(&[digit_char(d)]);
+    }
+
+    /// A number in decimal: what is before its last digit, and that digit.
+    pub fn put_decimal(&mut self, n: u32)
+        ensures { Puts self.old self.new (decimal_text n) }
+    {
+        if n < 10 {
+            self.put_digit(n);
+        } else {
+            self.put_decimal(n / 10);
+            self.put_digit(n % 10);
+        }
+    }
+
+    /// The bits of a float.
+    pub fn put_float(&mut self, x: f32)
+        ensures { Puts self.old self.new (float_text x) }
+    {
+        self.put_word(&hex(float::to_bits(x)));
+    }
+}
+
+// The character of a digit, decimal or hexadecimal.
+#[tactic(auto, unfolding(crate::specs::Digits::digit_char))]
+fn digit_char(d: u32) -> u8
+    requires { d < 16 }
+    ensures { result ≡ digit_char d }
+{
+    if d < 10 {
+        b'0' + d as u8
+    } else {
+        b'a' - 10 + d as u8
+    }
+}
+
+// The eight digits of a number.
+#[tactic(auto, unfolding(crate::specs::Digits::hex_text, crate::specs::Digits::four_text))]
+fn hex(w: u32) -> [u8; 8]
+    ensures { result ≡ hex_text w }
+{
+    let high = w / 65536;
+    let low = w % 65536;
+    [
+        digit_char(high / 4096 % 16),
+        digit_char(high / 256 % 16),
+        digit_char(high / 16 % 16),
+        digit_char(high % 16),
+        digit_char(low / 4096 % 16),
+        digit_char(low / 256 % 16),
+        digit_char(low / 16 % 16),
+        digit_char(low % 16),
+    ]
+}
