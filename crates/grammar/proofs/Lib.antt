@@ -1,3 +1,3 @@
-pub mod Fields
 pub mod Floats
+pub mod Heads
 pub mod Runs

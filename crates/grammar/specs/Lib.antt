@@ -1,3 +1,3 @@
 pub mod Grammar
 pub mod Head
-pub mod Taken
+pub mod Reader

@@ -1,28 +1,12 @@
 // A sheet's head: seven lines in a fixed order.
-ghost use Rattle.std.specs.Prelude.{◌≡◌, ◌≤◌};
-ghost use Rattle.grammar.specs.Grammar.{far};
-ghost use Rattle.grammar.specs.Head.{advanced, field_of, start_of, head_of};
+ghost use Rattle.std.specs.Prelude.{◌≡◌, ◌<◌, IfOk, IfErr};
+ghost use Rattle.grammar.specs.Head.{field_at, head_of};
 
-use crate::reader::{Taken, read_line};
+use crate::reader::{Kind, Line, Reader};
 
-// Where the next line starts, how many lines before it are right, and whether none was wrong.
-#[derive(Clone, Copy)]
-pub struct Cursor {
-    pub at: usize,
-    pub lines: usize,
-    pub ok: bool,
-}
-
-#[derive(Clone, Copy)]
-pub struct Field {
-    pub cursor: Cursor,
-    pub value: u32,
-}
-
-// What the lines say, widths as their bits.
+/// What the lines say, widths as their bits, and the place behind them.
 #[derive(Clone, Copy)]
 pub struct Head {
-    pub cursor: Cursor,
     pub degree: u32,
     pub basis: u32,
     pub ty: u32,
@@ -30,68 +14,43 @@ pub struct Head {
     pub width1: u32,
     pub splitdepth: u32,
     pub reverse: u32,
+    pub end: usize,
 }
 
-// The cursor behind a line, with the line's value. `number` lines stand before it.
-fn advance(number: u8, t: Taken) -> Field
-    ensures { result ≡ advanced number t }
-{
-    let value = t.value;
-    if t.ok {
-        let cursor = Cursor {
-            at: t.at,
-            lines: number as usize + 1,
-            ok: true,
-        };
-        Field { cursor, value }
-    } else {
-        let cursor = Cursor {
-            at: t.at,
-            lines: number as usize,
-            ok: false,
-        };
-        Field { cursor, value }
-    }
+/// Where a wrong line starts, and how many right lines stand before it.
+#[derive(Clone, Copy)]
+pub struct WrongLine {
+    pub at: usize,
+    pub lines: usize,
 }
 
-// A line of the head, unless one before it was wrong.
-fn take_field(s: &[u8], number: u8, c: Cursor) -> Field
-    requires { c.at ≤ far }
-    ensures { result ≡ field_of s.now number c }
+// A line behind so many that are right.
+#[tactic(auto, unfolding(crate::specs::Head::field_at))]
+fn take_field(reader: &mut Reader<'_>, kind: Kind, lines: usize) -> Result<Line, WrongLine>
+    ensures value { result ≡ field_at reader.old.src.now kind lines reader.old.at }
+    ensures src { reader.new.src.now ≡ reader.old.src.now }
+    ensures next { IfOk result (λ line. reader.new.at ≡ line.next) }
+    ensures lines { IfErr result (λ wrong. wrong.lines ≡ lines) }
 {
-    if c.ok {
-        advance(number, read_line(s, number, c.at))
-    } else {
-        Field {
-            cursor: c,
-            value: 0,
-        }
-    }
+    let at = reader.at;
+    reader.take(kind).ok_or(WrongLine { at, lines })
 }
 
-fn start() -> Cursor
-    ensures { result ≡ start_of }
+/// Reads the head of a sheet.
+#[tactic(auto, unfolding(crate::specs::Head::head_of))]
+pub fn read_head(s: &[u8]) -> Result<Head, WrongLine>
+    ensures value { result ≡ head_of s.now }
+    ensures few { IfErr result (λ wrong. wrong.lines < 7) }
 {
-    Cursor {
-        at: 0,
-        lines: 0,
-        ok: true,
-    }
-}
-
-pub fn read_head(s: &[u8]) -> Head
-    ensures { result ≡ head_of s.now }
-{
-    let degree = take_field(s, 0, start());
-    let basis = take_field(s, 1, degree.cursor);
-    let ty = take_field(s, 2, basis.cursor);
-    let width0 = take_field(s, 3, ty.cursor);
-    let width1 = take_field(s, 4, width0.cursor);
-    let splitdepth = take_field(s, 5, width1.cursor);
-    let reverse = take_field(s, 6, splitdepth.cursor);
-    let cursor = reverse.cursor;
-    Head {
-        cursor,
+    let mut reader = Reader { src: s, at: 0 };
+    let degree = take_field(&mut reader, Kind::Degree, 0)?;
+    let basis = take_field(&mut reader, Kind::Basis, 1)?;
+    let ty = take_field(&mut reader, Kind::Type, 2)?;
+    let width0 = take_field(&mut reader, Kind::Width0, 3)?;
+    let width1 = take_field(&mut reader, Kind::Width1, 4)?;
+    let splitdepth = take_field(&mut reader, Kind::SplitDepth, 5)?;
+    let reverse = take_field(&mut reader, Kind::Reverse, 6)?;
+    Ok(Head {
         degree: degree.value,
         basis: basis.value,
         ty: ty.value,
@@ -99,5 +58,6 @@ pub fn read_head(s: &[u8]) -> Head
         width1: width1.value,
         splitdepth: splitdepth.value,
         reverse: reverse.value,
-    }
+        end: reverse.next,
+    })
 }

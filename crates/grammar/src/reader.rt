@@ -1,89 +1,293 @@
 // A reader over a sheet that is lent: it takes a line, and stands behind it.
-ghost use Rattle.std.specs.Prelude.{◌≡◌, ◌≤◌};
-ghost use Rattle.grammar.specs.Grammar.{far, line_at};
-ghost use Rattle.grammar.specs.Taken.{behind_of, taken_of, taken_at};
+ghost use Rattle.std.specs.Prelude.{◌≡◌, ◌+◌, ◌*◌, ◌^◌, ◌<◌, ◌≤◌, ◌&&◌, length, max, IsTrue, IfSome};
+ghost use Rattle.limits.specs.List.{over};
+ghost use Rattle.grammar.specs.Grammar.{decimal_digit_at, decimal_at, word_line_at, decimal_line, word_line, either_line, type_line, float_size, separator, is_floats, float_at, floats_at, row_size, row_key, row_floats, row_line, line_at, rows_from, floats_from};
+ghost use Rattle.grammar.specs.Reader.{reader_behind, reader_after};
+ghost use Rattle.text.specs.Bytes.{byte_is, is_word};
 
-use crate::line::{Line, head_line};
-use crate::row::{POINT, row_line};
+use geometry::{POINT_FLOATS, RAY_FLOATS};
+use text::{digit_at, is_byte, stands_at, word_at};
 
-// The reader: the sheet that is lent, and the place where its next line starts.
+// A float's digits, and what stands behind them.
+const FLOAT_SIZE: usize = 9;
+
+/// The rows: a key, floats with commas between, and LF.
+#[derive(Clone, Copy, Debug, PartialEq, Eq)]
+pub enum Row {
+    Point,
+    Beam,
+}
+
+impl Row {
+    #[tactic(auto, unfolding(text::specs::Ascii::ascii))]
+    fn key(self) -> &'static [u8]
+        ensures { result.now ≡ row_key self }
+    {
+        match self {
+            Row::Point => b"point=",
+            Row::Beam => b"beam=",
+        }
+    }
+
+    fn floats(self) -> usize
+        ensures value { result ≡ row_floats self }
+        ensures few { result ≤ 8 }
+        ensures some { 0 < result }
+    {
+        match self {
+            Row::Point => POINT_FLOATS,
+            Row::Beam => RAY_FLOATS,
+        }
+    }
+}
+
+/// The kinds of lines: those of the head in their order, and rows.
+#[derive(Clone, Copy, Debug, PartialEq, Eq)]
+pub enum Kind {
+    Degree,
+    Basis,
+    Type,
+    Width0,
+    Width1,
+    SplitDepth,
+    Reverse,
+    Row(Row),
+}
+
+/// A line that is right: its value, and the place behind its LF. A row's value is how many floats it has.
+#[derive(Clone, Copy)]
+pub struct Line {
+    pub value: u32,
+    pub next: usize,
+}
+
+/// The sheet that is lent, and the place where its next line starts.
 #[derive(Clone, Copy)]
 pub struct Reader<'a> {
     pub src: &'a [u8],
     pub at: usize,
 }
 
-// A line that was taken: its value, and where the reader then stands. Before a wrong line it stays.
-#[derive(Clone, Copy)]
-pub struct Taken {
-    pub value: u32,
-    pub at: usize,
-    pub ok: bool,
+#[tactic(auto, unfolding(crate::specs::Grammar::decimal_digit_at))]
+fn decimal_digit(s: &[u8], i: usize) -> Option<u32>
+    ensures value { result ≡ decimal_digit_at s.now i }
+    ensures small { IfSome result (λ d. d < 10) }
+    ensures within { IfSome result (λ _. i < length s.now) }
+{
+    let d = digit_at(s, i)?;
+    if d < 10 { Some(d) } else { None }
 }
 
-// The line that starts at a place, of any kind: 0 to 6 of the head in their order, POINT or RAY.
-fn line_at(s: &[u8], kind: u8, at: usize) -> Line
-    requires { at ≤ far }
-    ensures { result ≡ line_at s.now kind at }
+// What stands behind float i of n.
+#[tactic(auto, unfolding(crate::specs::Grammar::separator))]
+fn separator(n: usize, i: usize) -> u8
+    requires { i < n }
+    ensures { result ≡ separator n i }
 {
-    if kind < POINT {
-        head_line(s, kind, at)
-    } else {
-        row_line(s, kind, at)
+    if i + 1 == n { b'\n' } else { b',' }
+}
+
+// Whether a float stands at a place, with a byte behind it.
+#[tactic(auto, unfolding(text::specs::Bytes::is_word))]
+fn is_float(s: &[u8], at: usize, behind: u8) -> bool
+    ensures value { result ≡ (is_word s.now at && byte_is s.now (at + 8) behind) }
+    ensures within { IsTrue result → at + float_size ≤ length s.now }
+{
+    word_at(s, at).is_some() && is_byte(s, at + 8, behind)
+}
+
+// Puts the floats whose digits start at a place.
+fn put_floats(s: &[u8], at: usize, out: &mut [f32])
+    requires { at + length out.old * float_size < 2 ^ 64 }
+    ensures { out.new ≡ floats_at s.now at (length out.old) }
+{
+    for (i, x) in out.iter_mut().enumerate() {
+        *x = float::of_bits(word_at(s, at + i * FLOAT_SIZE).unwrap_or(0));
     }
 }
 
-// The place behind a line that starts at a place.
-fn behind(line: Line, at: usize) -> usize
-    ensures { result ≡ behind_of line at }
-{
-    match line {
-        Line::Value(_, next) => next,
-        Line::Wrong => at,
+impl<'a> Reader<'a> {
+    // The reader behind a word that stands here.
+    #[tactic(auto, unfolding(crate::specs::Reader::reader_behind))]
+    fn behind(self, word: &[u8]) -> Option<Reader<'a>>
+        ensures value { result ≡ reader_behind self.entry word.now }
+    {
+        if stands_at(self.src, self.at, word) {
+            Some(Reader {
+                at: self.at + word.len(),
+                ..self
+            })
+        } else {
+            None
+        }
     }
-}
 
-// What a line says, by where the reader stands after it.
-fn taken_line(line: Line, at: usize) -> Taken
-    ensures { result ≡ taken_of line at }
-{
-    match line {
-        Line::Value(value, _) => Taken {
-            value,
-            at,
-            ok: true,
-        },
-        Line::Wrong => Taken {
-            value: 0,
-            at,
-            ok: false,
-        },
+    // One or two decimal digits and LF.
+    #[tactic(auto, unfolding(crate::specs::Grammar::decimal_at))]
+    fn decimal(self) -> Option<Line>
+        ensures { result ≡ decimal_at self.entry.src.now self.entry.at }
+    {
+        let a = decimal_digit(self.src, self.at)?;
+        if is_byte(self.src, self.at + 1, b'\n') {
+            return Some(Line {
+                value: a,
+                next: self.at + 2,
+            });
+        }
+        let b = decimal_digit(self.src, self.at + 1)?;
+        if is_byte(self.src, self.at + 2, b'\n') {
+            Some(Line {
+                value: a * 10 + b,
+                next: self.at + 3,
+            })
+        } else {
+            None
+        }
     }
-}
 
-// The line of a kind at the reader's place.
-fn next_line<'a>(r: Reader<'a>, kind: u8) -> Line
-    requires { r.at ≤ far }
-    ensures { result ≡ line_at r.entry.src.now kind r.entry.at }
-{
-    line_at(r.src, kind, r.at)
-}
+    // Eight hexadecimal digits and LF.
+    #[tactic(auto, unfolding(crate::specs::Grammar::word_line_at))]
+    fn word(self) -> Option<Line>
+        ensures { result ≡ word_line_at self.entry.src.now self.entry.at }
+    {
+        let value = word_at(self.src, self.at)?;
+        if is_byte(self.src, self.at + 8, b'\n') {
+            Some(Line {
+                value,
+                next: self.at + 9,
+            })
+        } else {
+            None
+        }
+    }
 
-// The reader behind that line.
-fn move_on<'a>(r: Reader<'a>, line: Line) -> Reader<'a>
-    ensures { (result.src ≡ r.entry.src) × (result.at ≡ behind_of line r.entry.at) }
-{
-    let at = behind(line, r.at);
-    Reader { src: r.src, at }
-}
+    // A key, a decimal number and LF.
+    #[tactic(auto, unfolding(crate::specs::Grammar::decimal_line, crate::specs::Reader::reader_behind))]
+    fn decimal_line(self, key: &[u8]) -> Option<Line>
+        ensures { result ≡ decimal_line self.entry.src.now self.entry.at key.now }
+    {
+        self.behind(key)?.decimal()
+    }
 
-// Takes the line of a kind that starts at a place, for callers that have the sheet and the place.
-pub fn read_line(s: &[u8], kind: u8, at: usize) -> Taken
-    requires { at ≤ far }
-    ensures { result ≡ taken_at s.now kind at }
-{
-    let r = Reader { src: s, at };
-    let line = next_line(r, kind);
-    let next = move_on(r, line);
-    taken_line(line, next.at)
+    // A key, eight hexadecimal digits and LF.
+    #[tactic(auto, unfolding(crate::specs::Grammar::word_line, crate::specs::Reader::reader_behind))]
+    fn word_line(self, key: &[u8]) -> Option<Line>
+        ensures { result ≡ word_line self.entry.src.now self.entry.at key.now }
+    {
+        self.behind(key)?.word()
+    }
+
+    // One of two whole lines, which stand for 0 and 1.
+    #[tactic(auto, unfolding(crate::specs::Grammar::either_line, crate::specs::Reader::reader_behind))]
+    fn either_line(self, first: &[u8], second: &[u8]) -> Option<Line>
+        ensures { result ≡ either_line self.entry.src.now self.entry.at first.now second.now }
+    {
+        if let Some(next) = self.behind(first) {
+            return Some(Line {
+                value: 0,
+                next: next.at,
+            });
+        }
+        let next = self.behind(second)?;
+        Some(Line {
+            value: 1,
+            next: next.at,
+        })
+    }
+
+    #[tactic(auto, unfolding(text::specs::Ascii::ascii, crate::specs::Grammar::type_line, crate::specs::Reader::reader_behind))]
+    fn type_line(self) -> Option<Line>
+        ensures { result ≡ type_line self.entry.src.now self.entry.at }
+    {
+        if let Some(next) = self.behind(b"type=cylinder\n") {
+            return Some(Line {
+                value: 2,
+                next: next.at,
+            });
+        }
+        self.either_line(b"type=flat\n", b"type=ribbon\n")
+    }
+
+    // Whether n floats stand here, each with what stands behind it.
+    fn are_floats(self, n: usize) -> bool
+        requires { n ≤ 8 }
+        ensures value { result ≡ is_floats self.entry.src.now self.entry.at n }
+        ensures within { IsTrue result → self.entry.at + n * float_size ≤ max self.entry.at (length self.entry.src.now) }
+    {
+        let mut at = self.at;
+        for i in 0..n {
+            if !is_float(self.src, at, separator(n, i)) {
+                return false;
+            }
+            at += FLOAT_SIZE;
+        }
+        true
+    }
+
+    #[tactic(auto, unfolding(crate::specs::Grammar::row_line, crate::specs::Grammar::row_at, crate::specs::Grammar::is_row, crate::specs::Grammar::row_size, crate::specs::Reader::reader_behind))]
+    fn row_line(self, row: Row) -> Option<Line>
+        ensures { result ≡ row_line self.entry.src.now row self.entry.at }
+    {
+        let floats = self.behind(row.key())?;
+        let n = row.floats();
+        if floats.are_floats(n) {
+            Some(Line {
+                value: n as u32,
+                next: floats.at + n * FLOAT_SIZE,
+            })
+        } else {
+            None
+        }
+    }
+
+    // The line of a kind that starts here.
+    #[tactic(auto, unfolding(text::specs::Ascii::ascii))]
+    fn line(self, kind: Kind) -> Option<Line>
+        ensures { result ≡ line_at self.entry.src.now kind self.entry.at }
+    {
+        match kind {
+            Kind::Degree => self.decimal_line(b"degree="),
+            Kind::Basis => self.either_line(b"basis=bezier\n", b"basis=bspline\n"),
+            Kind::Type => self.type_line(),
+            Kind::Width0 => self.word_line(b"width0="),
+            Kind::Width1 => self.word_line(b"width1="),
+            Kind::SplitDepth => self.decimal_line(b"splitdepth="),
+            Kind::Reverse => self.either_line(b"reverse=0\n", b"reverse=1\n"),
+            Kind::Row(row) => self.row_line(row),
+        }
+    }
+
+    /// Takes the line of a kind, and then stands behind it; before a wrong one it stays.
+    pub fn take(&mut self, kind: Kind) -> Option<Line>
+        ensures value { result ≡ line_at self.old.src.now kind self.old.at }
+        ensures reader { self.new ≡ reader_after self.old result }
+    {
+        let line = self.line(kind)?;
+        self.at = line.next;
+        Some(line)
+    }
+
+    /// Takes the rows of a kind that follow each other, at most so many, puts their floats, and answers how many there are.
+    pub fn read_rows(&mut self, row: Row, most: usize, out: &mut [f32]) -> usize
+        requires { most * row_floats row ≤ length out.old }
+        ensures value { result ≡ rows_from self.old.src.now self.old.at (row_key row) (row_floats row) most }
+        ensures most { result ≤ most }
+        ensures reader { self.new
+            ≡ record self.old { at = self.old.at + result * row_size (row_key row) (row_floats row) } }
+        ensures out_after { out.new
+            ≡ over out.old 0 (floats_from self.old.src.now self.old.at (row_key row) (row_floats row) result) }
+    {
+        let n = row.floats();
+        for j in 0..most {
+            let Some(line) = self.take(Kind::Row(row)) else {
+                return j;
+            };
+            put_floats(
+                self.src,
+                line.next - n * FLOAT_SIZE,
+                &mut out[j * n..j * n + n],
+            );
+        }
+        most
+    }
 }
