@@ -14,19 +14,18 @@ use Rattle.text.specs.Digits.{digit_char, decimal_in, decimal_text, hex_text}
 use Rattle.text.proofs.Decimal.{decimal_one, decimal_more}
 use Rattle.text.proofs.DigitsBack.{digit_no_end, digit_back, digit_here, word_back}
 use Rattle.text.proofs.Places.{Reads, reads_next, byte_at, byte_here, stands, stands_not}
-use Rattle.grammar.specs.Grammar.{decimal_at, decimal_line, word_line_at, word_line, either_line, type_line, later_line, head_line}
-use Rattle.grammar.specs.Head.{start_of, head_of}
+use Rattle.grammar.specs.Grammar.{right, decimal_digit_at, decimal_at, decimal_line, word_line_at, word_line, either_line, type_line, line_at}
+use Rattle.grammar.specs.Head.{field_at, head_of}
 use Rattle.sheet.specs.Written.{Text, IsText, IsWord, basis_of, type_of, line_of, head_text, head_at, head_written}
-use Rattle.grammar.proofs.Fields.{field_right}
-use Rattle.grammar.specs.declared.head.Cursor.{Cursor}
-use Rattle.grammar.specs.declared.line.Line.{Line}
-use Rattle.grammar.specs.declared.line.Line.TheVariants.{Value}
+use Rattle.std.specs.Prelude.{Option, Ok}
+use Rattle.grammar.specs.declared.reader.Line.{Line}
+use Rattle.grammar.specs.declared.reader.Kind.TheVariants as kind
 
 -- ---- its lines
 
 -- a line that holds v, with r behind it
-abbrev Holds : List ℕ → Line → ℕ → List ℕ → Type 0
-Holds l line v r = (next : ℕ) × (line ≡ Value v next) × Reads l next r
+abbrev Holds : List ℕ → Option Line → ℕ → List ℕ → Type 0
+Holds l line v r = (next : ℕ) × (line ≡ right v next) × Reads l next r
 
 -- one or two digits
 decimal_two : (n : ℕ) → n < 100 → decimal_text n ≡ cond (ltb n 10) (digit_char n ∷ []) (digit_char (n / 10) ∷ digit_char (n % 10) ∷ [])
@@ -37,7 +36,7 @@ decimal_two n h = go (ltb n 10) (ltb-true n 10) (ltb-false n 10)
     go false f g = decimal_more n (g refl) ∙ ap (λ (s : List ℕ). s ++ (digit_char (n % 10) ∷ [])) (decimal_one (n / 10) (omega arith))
 
 decimal_at_lem : (l : List ℕ) (at n : ℕ) (r : List ℕ) → Reads l at (decimal_text n ++ 10 ∷ r) → n < 100 → Holds l (decimal_at l at) n r
-unfolding decimal_at
+unfolding decimal_at decimal_digit_at
 decimal_at_lem l at n r h b = go (ltb n 10) refl (rw (decimal_two n b) at h)
   where
     go : (t : Bool) → ltb n 10 ≡ t → Reads l at (cond t (digit_char n ∷ []) (digit_char (n / 10) ∷ digit_char (n % 10) ∷ []) ++ 10 ∷ r) → Holds l (decimal_at l at) n r
@@ -54,7 +53,7 @@ decimal_at_lem l at n r h b = go (ltb n 10) refl (rw (decimal_two n b) at h)
         let z = byte_at l at w 1 10 g (omega arith) ∙ digit_no_end (n % 10) (omega arith) in
         let v : n / 10 * 10 + n % 10 ≡ n = omega arith in (
           at + 3,
-          rw (x, y, z, byte_at l at w 2 10 g (omega arith), lt-ltb (n / 10) 10 (omega arith), lt-ltb (n % 10) 10 (omega arith), v),
+          rw (x, lt-ltb (n / 10) 10 (omega arith), z, y, lt-ltb (n % 10) 10 (omega arith), byte_at l at w 2 10 g (omega arith), v),
           reads_next l at (digit_char (n / 10) ∷ digit_char (n % 10) ∷ 10 ∷ []) r g,
         )
 
@@ -76,7 +75,7 @@ word_line_lem l at key w r h b =
     let f = word_back l (at + length key) w (10 ∷ r) g.1 b in
     let n = reads_next l (at + length key + 8) (10 ∷ []) r f.2 in (
       at + length key + 9,
-      rw (g.0, f.0, f.1, byte_here l (at + length key + 8) 10 r f.2),
+      rw (g.0, f.1, byte_here l (at + length key + 8) 10 r f.2),
       rw (add_assoc (at + length key) 8 1) at n,
     )
 
@@ -110,35 +109,22 @@ type_line_lem l at (suc (suc (suc n))) r h b = absurd (omega arith)
 
 -- ---- the whole of it
 
--- the cursor behind so many right lines
-abbrev right : ℕ → ℕ → Cursor
-right at lines = record { at = at; lines = lines; ok = true }
-
 -- the seven lines, each from where the one before it ends
 head_is :
     (l : List ℕ) (t : Text) (a b c d e f g : ℕ)
-    → head_line l 0 0 ≡ Value t.degree a
-    → head_line l 1 a ≡ Value t.basis b
-    → head_line l 2 b ≡ Value t.ty c
-    → head_line l 3 c ≡ Value t.width0 d
-    → head_line l 4 d ≡ Value t.width1 e
-    → head_line l 5 e ≡ Value t.splitdepth f
-    → head_line l 6 f ≡ Value t.reverse g
-    → head_of l ≡ head_at t g
-unfolding head_of start_of
-head_is l t a b c d e f g p q r s u v w =
-    rw (
-      field_right l 0 start_of _ a (lit< tt) refl p,
-      field_right l 1 (right a 1) _ b (lit< tt) refl q,
-      field_right l 2 (right b 2) _ c (lit< tt) refl r,
-      field_right l 3 (right c 3) _ d (lit< tt) refl s,
-      field_right l 4 (right d 4) _ e (lit< tt) refl u,
-      field_right l 5 (right e 5) _ f (lit< tt) refl v,
-      field_right l 6 (right f 6) _ g (lit< tt) refl w,
-    )
+    → line_at l kind.Degree 0 ≡ right t.degree a
+    → line_at l kind.Basis a ≡ right t.basis b
+    → line_at l kind.«Type» b ≡ right t.ty c
+    → line_at l kind.Width0 c ≡ right t.width0 d
+    → line_at l kind.Width1 d ≡ right t.width1 e
+    → line_at l kind.SplitDepth e ≡ right t.splitdepth f
+    → line_at l kind.Reverse f ≡ right t.reverse g
+    → head_of l ≡ Ok (head_at t g)
+unfolding head_of field_at
+head_is l t a b c d e f g p q r s u v w = rw (p, q, r, s, u, v, w)
 
-head_at_lem : (l : List ℕ) (t : Text) (r : List ℕ) → IsText t → Reads l 0 (head_text t ++ r) → (next : ℕ) × (head_of l ≡ head_at t next) × Reads l next r
-unfolding head_text head_line later_line
+head_at_lem : (l : List ℕ) (t : Text) (r : List ℕ) → IsText t → Reads l 0 (head_text t ++ r) → (next : ℕ) × (head_of l ≡ Ok (head_at t next)) × Reads l next r
+unfolding head_text
 head_at_lem l t r i h =
     let a = decimal_line_lem l 0 (ascii "degree=") t.degree _ (simp append_assoc at h) i.degree in
     let b = basis_line l a.0 t.basis _ a.2 i.basis in
@@ -153,8 +139,8 @@ head_at_lem l t r i h =
     )
 
 -- THE HEAD: its fields are those that were written, and the place behind it is behind its text
-pub head_back : (l : List ℕ) (t : Text) (r : List ℕ) → IsText t → Reads l 0 (head_text t ++ r) → (head_of l ≡ head_written t) × Reads l (length (head_text t)) r
+pub head_back : (l : List ℕ) (t : Text) (r : List ℕ) → IsText t → Reads l 0 (head_text t ++ r) → (head_of l ≡ Ok (head_written t)) × Reads l (length (head_text t)) r
 head_back l t r i h =
     let a = head_at_lem l t r i h in
     let e : a.0 ≡ length (head_text t) = omega (arith, h.1, a.2.1, length-append (head_text t) r) in
-    (a.1 ∙ ap (head_at t) e, subst (λ (k : ℕ). Reads l k r) e a.2)
+    (a.1 ∙ ap (λ (k : ℕ). Ok (head_at t k)) e, subst (λ (k : ℕ). Reads l k r) e a.2)

@@ -3,7 +3,7 @@ use mathlib.Core.Logic.{inl, inr}
 use mathlib.Core.Bool.{Bool, true, false, cond, not, false≢true, and-eq-true_iff}
 use mathlib.Core.List.{List}
 use mathlib.Core.Path.{◌≡◌, refl, sym, ap, subst, ◌∙◌}
-use Prim.Native.Nat.{ℕ, zero, suc, ◌+◌, ◌*◌, ◌<◌}
+use Prim.Native.Nat.{ℕ, zero, suc, ◌+◌, ◌*◌, ◌/◌, ◌<◌}
 use native.Mathlib.Nat.{le_refl, add-zero, zero-mul, suc-mul}
 use native.Mathlib.Omega.{arith}
 use borrow.Author.Tests.{not-true, eqb-false}
@@ -14,25 +14,28 @@ use Rattle.geometry.specs.Point.{point_floats}
 use Rattle.geometry.specs.Ray.{ray_floats}
 use Rattle.limits.specs.Below.{all_below}
 use Rattle.limits.specs.List.{over}
-use Rattle.limits.specs.Refusal.{first_of, told}
-use Rattle.limits.proofs.Refusals.{first_passes}
+use Rattle.limits.specs.Refused.{number_of, first_of, told}
+use Rattle.limits.specs.declared.refusal.Refusal.{Refusal}
+use Rattle.limits.specs.declared.refusal.Refusal.TheVariants as refusal
+use Rattle.limits.proofs.Told.{first_passes}
 use Rattle.text.specs.Ascii.{ascii}
 use Rattle.text.specs.Bytes.{byte_is}
-use Rattle.create.specs.Create.{limit_refusals, create_refusals, created_of}
-use Rattle.create.specs.declared.create.Created.TheVariants as created
+use Rattle.create.specs.Create.{limit_refusals, create_refusals, curve_count, created_of}
 use Rattle.create.specs.declared.create.Params.{Params}
-use Rattle.grammar.specs.Grammar.{most_bytes, line_feed, is_row, row_size, point_key, ray_key, run_below, rows_from, line_at}
-use Rattle.grammar.specs.Head.{advanced, field_of, start_of, head_of}
-use Rattle.grammar.specs.Taken.{behind_of, taken_of, taken_at}
-use Rattle.grammar.specs.declared.head.Cursor.{Cursor}
+use Rattle.std.specs.Prelude.{Option, Some, None, Result, Ok, Err, is_ok}
+use Rattle.grammar.specs.Grammar.{most_bytes, line_feed, is_row, row_size, point_key, ray_key, run_below, rows_from}
+use Rattle.grammar.specs.Head.{◌>>=◌, field_at, head_of, head_end, head_lines_right}
 use Rattle.grammar.specs.declared.head.Head.{Head}
-use Rattle.grammar.specs.declared.line.Line.{Line}
-use Rattle.grammar.specs.declared.line.Line.TheVariants.{Value, Wrong}
+use Rattle.grammar.specs.declared.head.WrongLine.{WrongLine}
+use Rattle.grammar.specs.declared.reader.Line.{Line}
+use Rattle.grammar.specs.declared.reader.Kind.{Kind}
+use Rattle.grammar.specs.declared.reader.Kind.TheVariants as kind
+use Rattle.grammar.proofs.Heads.{field_either}
 use Rattle.grammar.proofs.Runs.{run-passes}
 use Rattle.sheet.specs.Answer.{reply_number, reply_line}
 use Rattle.sheet.specs.Lines.{feeds_before, line_number, StartsLine}
-use Rattle.sheet.specs.Sheet.{no_rays, refused_with, params_in, with_curves, point_count, points_of, rays_from, rays_at, ray_count, rays_of, lines_right, right_end, is_whole, sheet_within, sheet_of}
-use Rattle.sheet.specs.declared.Reply.TheVariants.{Refused}
+use Rattle.sheet.specs.Sheet.{no_rays, refused_with, params_in, with_curves, point_count, points_of, rays_from, rays_at, ray_count, rays_of, lines_right, right_end, is_whole, sheet_behind, sheet_within, sheet_of}
+use Rattle.sheet.specs.declared.SheetRefusal.{SheetRefusal}
 use Rattle.sheet.specs.declared.Sheet.{Sheet}
 use Rattle.sheet.proofs.OneLine.{Plain, IsLine, NoFeed, Ends, row_line_lem, line_ends}
 
@@ -69,25 +72,25 @@ line_behind l n at next h b = (feeds_line l at next h ∙ ap (λ (k : ℕ). k + 
 
 -- ---- the head
 
--- the lines that are right stand before the cursor, and they are all that came if none was wrong
-abbrev Counted : List ℕ → ℕ → Cursor → Type 0
-Counted l number c = Behind l c.lines c.at × (c.ok ≡ true → c.lines ≡ number)
+-- the lines that are right stand before the place behind them
+abbrev Counted : List ℕ → Result Head WrongLine → Type 0
+Counted l head = Behind l (head_lines_right head) (head_end head)
 
-field_counted : (l : List ℕ) (number : ℕ) (c : Cursor) → Counted l number c → Counted l (number + 1) (field_of l number c).cursor
-unfolding field_of advanced taken_at
-field_counted l number c h = go c.ok refl (line_at l number c.at) (line_ends l number c.at)
-  where
-    came : c.ok ≡ true → Behind l number c.at
-    came e = subst (λ (n : ℕ). Behind l n c.at) (h.1 e) h.0
+field_counted : (l : List ℕ) (kind : Kind) (lines at : ℕ) (f : Line → Result Head WrongLine) → Behind l lines at → ((line : Line) → Behind l (lines + 1) line.next → Counted l (f line)) → Counted l (field_at l kind lines at >>= f)
+field_counted l kind lines at f b g =
+    field_either (Counted l) l kind lines at f (λ line e. g line (line_behind l lines at line.next (subst (Ends l at) e (line_ends l kind at)) b)) (λ _. b)
 
-    go : (b : Bool) → c.ok ≡ b → (x : Line) → Ends l c.at x → Counted l (number + 1) (cond b (advanced number (taken_of x (behind_of x c.at))) (record { cursor = c; value = 0 })).cursor
-    go true e (Value v next) g = (line_behind l number c.at next g (came e), λ _. refl)
-    go true e Wrong g = (came e, λ f. absurd (false≢true f))
-    go false e x g = (h.0, λ f. absurd (false≢true (sym e ∙ f)))
-
-head_counted : (l : List ℕ) → Behind l (head_of l).cursor.lines (head_of l).cursor.at
-unfolding head_of start_of feeds_before
-head_counted l = (field_counted l 6 _ (field_counted l 5 _ (field_counted l 4 _ (field_counted l 3 _ (field_counted l 2 _ (field_counted l 1 _ (field_counted l 0 start_of ((refl, inl refl), λ _. refl)))))))).0
+head_counted : (l : List ℕ) → Counted l (head_of l)
+unfolding head_of feeds_before
+head_counted l =
+    field_counted l kind.Degree 0 0 _ (refl, inl refl)
+    (λ degree a. field_counted l kind.Basis 1 degree.next _ a
+    (λ basis b. field_counted l kind.«Type» 2 basis.next _ b
+    (λ ty c. field_counted l kind.Width0 3 ty.next _ c
+    (λ width0 d. field_counted l kind.Width1 4 width0.next _ d
+    (λ width1 e. field_counted l kind.SplitDepth 5 width1.next _ e
+    (λ splitdepth f. field_counted l kind.Reverse 6 splitdepth.next _ f
+    (λ reverse g. g)))))))
 
 -- ---- rows
 
@@ -112,43 +115,43 @@ module _ (l : List ℕ) (key : List ℕ) (n : ℕ) (f : NoFeed key (length key))
 
 -- ---- the lines that are right
 
-lines_counted : (l : List ℕ) → Behind l (lines_right l (head_of l).cursor) (right_end l (head_of l).cursor)
+lines_counted : (l : List ℕ) → Behind l (lines_right l (head_of l)) (right_end l (head_of l))
 unfolding right_end lines_right ray_count rays_from rays_at point_count ascii all_below
 lines_counted l =
-    let c = (head_of l).cursor in
-    rows-from l ray_key ray_floats refl (lit< tt) _ (rays_at l c) _ (ltb 0 (point_count l c)) (rows-from l point_key point_floats refl (lit< tt) c.lines c.at _ c.ok (head_counted l))
+    let c = head_of l in
+    rows-from l ray_key ray_floats refl (lit< tt) _ (rays_at l c) _ (ltb 0 (point_count l c)) (rows-from l point_key point_floats refl (lit< tt) (head_lines_right c) (head_end c) _ (is_ok c) (head_counted l))
 
 -- the wrong line starts behind them
-pub right_end_starts : (l : List ℕ) → StartsLine l (right_end l (head_of l).cursor)
+pub right_end_starts : (l : List ℕ) → StartsLine l (right_end l (head_of l))
 right_end_starts l = (lines_counted l).1
 
 -- ---- the reply
 
--- laying does not tell 17
-laying_other : (l : List Float) (p : Params) (room : ℕ) → first_of (create_refusals l p room) ≡ 17 → ⊥
-laying_other l p room = eqb-false _ 17 (not-true _ (first_passes (λ k. not (eqb k 17)) (create_refusals l p room) refl (unfold create_refusals limit_refusals in refl)))
+-- laying tells no wrong line
+made_other : (l : List Float) (p : Params) (room : ℕ) (reason : Refusal) → first_of (create_refusals l p room) ≡ Some reason → number_of reason ≡ 17 → ⊥
+made_other l p room reason e = eqb-false _ 17 (not-true _ (first_passes (λ r. not (eqb (number_of r) 17)) (create_refusals l p room) (unfold create_refusals limit_refusals in refl) reason e))
 
-curves_other : (h : Head) (n : ℕ) (rays : List Float) (k m : ℕ) → (k ≡ 17 → ⊥) → reply_number (with_curves h n rays (told created.Refused k (created.Curves m))).reply ≡ 17 → ⊥
-unfolding refused_with
-curves_other h n rays zero m other e = omega (arith, e)
-curves_other h n rays (suc k) m other e = other e
-
-created_other : (h : Head) (n : ℕ) (rays l : List Float) (p : Params) (room : ℕ) → reply_number (with_curves h n rays (created_of l p room)).reply ≡ 17 → ⊥
+created_other : (h : Head) (n : ℕ) (rays l : List Float) (p : Params) (room : ℕ) → reply_number (with_curves h n rays (created_of l p room)) ≡ 17 → ⊥
 unfolding created_of
-created_other h n rays l p room = curves_other h n rays (first_of (create_refusals l p room)) _ (laying_other l p room)
-
--- THE LAW: the line of a refusal 17 is the one that starts behind the lines that are right
-pub wrong_line : (l : List ℕ) (room k : ℕ) → (sheet_of l room).reply ≡ Refused 17 k → k ≡ line_number l (right_end l (head_of l).cursor)
-unfolding sheet_of sheet_within refused_with line_number
-wrong_line l room k = go (ltb most_bytes (length l)) (is_whole l c)
+created_other h n rays l p room = go (first_of (create_refusals l p room)) refl
   where
-    c : Cursor
-    c = (head_of l).cursor
+    go : (x : Option Refusal) → first_of (create_refusals l p room) ≡ x → reply_number (with_curves h n rays (told x (Ok (curve_count (length l / 3) p)))) ≡ 17 → ⊥
+    go None e f = omega (arith, f)
+    go (Some reason) e f = made_other l p room reason e f
 
-    laid : Sheet
-    laid = with_curves (head_of l) (ray_count l c) (over no_rays 0 (rays_of l c)) (created_of (points_of l c) (params_in (head_of l)) room)
+-- THE LAW: the wrong line is the one that starts behind the lines that are right
+pub wrong_line : (l : List ℕ) (room k : ℕ) → sheet_of l room ≡ refused_with refusal.WrongLine k → k ≡ line_number l (right_end l (head_of l))
+unfolding sheet_of sheet_within line_number
+wrong_line l room k = go (ltb most_bytes (length l)) (head_of l) (sym (lines_counted l).0)
+  where
+    go : (b : Bool) (head : Result Head WrongLine) → lines_right l head ≡ feeds_before l (right_end l head) → cond b (refused_with refusal.SheetTooLong 0) (sheet_behind l room head) ≡ refused_with refusal.WrongLine k → k ≡ feeds_before l (right_end l head) + 1
+    go true head n e = absurd (omega (arith, ap reply_number e))
+    go false (Ok h) n e = either (is_whole l (Ok h)) e
+      where
+        laid : Result Sheet SheetRefusal
+        laid = with_curves h (ray_count l (Ok h)) (over no_rays 0 (rays_of l (Ok h))) (created_of (points_of l (Ok h)) (params_in h) room)
 
-    go : (b d : Bool) → (cond b (refused_with 18 0) (cond d laid (refused_with 17 (lines_right l c + 1)))).reply ≡ Refused 17 k → k ≡ feeds_before l (right_end l c) + 1
-    go true d e = absurd (omega (arith, ap reply_number e))
-    go false true e = absurd (created_other (head_of l) (ray_count l c) (over no_rays 0 (rays_of l c)) (points_of l c) (params_in (head_of l)) room (ap reply_number e))
-    go false false e = sym (ap reply_line e) ∙ ap (λ (n : ℕ). n + 1) (sym (lines_counted l).0)
+        either : (d : Bool) → cond d laid (refused_with refusal.WrongLine (lines_right l (Ok h) + 1)) ≡ refused_with refusal.WrongLine k → k ≡ feeds_before l (right_end l (Ok h)) + 1
+        either true e = absurd (created_other h (ray_count l (Ok h)) (over no_rays 0 (rays_of l (Ok h))) (points_of l (Ok h)) (params_in h) room (ap reply_number e))
+        either false e = sym (ap reply_line e) ∙ ap (λ (n : ℕ). n + 1) n
+    go false (Err w) n e = sym (ap reply_line e) ∙ ap (λ (n : ℕ). n + 1) n

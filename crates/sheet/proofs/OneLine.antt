@@ -1,5 +1,5 @@
 -- A line that is right is one line of the sheet: no LF stands in it but the last of its bytes. Assumes nothing.
-use mathlib.Core.Bool.{Bool, true, false, cond, not, ◌&&◌, and-false, and-eq-true_iff}
+use mathlib.Core.Bool.{Bool, true, false, cond, not, ◌&&◌, and-false, and-eq-true_iff, false≢true}
 use mathlib.Core.List.{List}
 use mathlib.Core.Path.{◌≡◌, refl, sym, ap, subst, ◌∙◌}
 use Prim.Native.Nat.{ℕ, zero, suc, ◌+◌, ◌*◌, ◌-◌, ◌<◌}
@@ -13,11 +13,14 @@ use Rattle.geometry.specs.Ray.{ray_floats}
 use Rattle.limits.specs.Below.{all_below}
 use Rattle.limits.proofs.Below.{all-at}
 use Rattle.text.specs.Ascii.{ascii}
-use Rattle.text.specs.Bytes.{byte_is, stands_at, digit_of, digit_at, four_at, is_word, word_at}
-use Rattle.text.proofs.Places.{word_fours}
-use Rattle.grammar.specs.Grammar.{line_feed, comma, decimal_at, decimal_line, word_line_at, word_line, either_line, type_line, later_line, head_line, float_size, separator, is_floats, is_row, row_size, point_key, ray_key, row_at, head_lines, point_line, row_key, row_floats, row_line, line_at}
-use Rattle.grammar.specs.declared.line.Line.{Line}
-use Rattle.grammar.specs.declared.line.Line.TheVariants.{Value, Wrong}
+use Rattle.text.specs.Bytes.{◌>>=◌, byte_is, stands_at, digit_of, digit_at, is_word, word_at}
+use Rattle.text.proofs.Places.{word_digits}
+use Rattle.grammar.specs.Grammar.{line_feed, comma, right, decimal_digit_at, decimal_at, decimal_line, word_line_at, word_line, either_line, type_line, float_size, separator, is_floats, is_row, row_size, point_key, ray_key, row_at, row_line, line_at}
+use Rattle.std.specs.Prelude.{Option, Some, None, is_some}
+use Rattle.grammar.specs.declared.reader.Line.{Line}
+use Rattle.grammar.specs.declared.reader.Kind.{Kind}
+use Rattle.grammar.specs.declared.reader.Kind.TheVariants as kind
+use Rattle.grammar.specs.declared.reader.Row.TheVariants as row
 
 -- no LF among the n bytes from a place on
 abbrev pub Plain : List ℕ → ℕ → ℕ → Type 0
@@ -55,36 +58,29 @@ byte_other : (l : List ℕ) (i b : ℕ) → byte_is l i b ≡ true → eqb b lin
 unfolding byte_is
 byte_other l i b e f = rw (eqb-true (get_or l i 0) b ((and-eq-true_iff (ltb i (length l)) (eqb (get_or l i 0) b)).0 e).1, f) (and-false (ltb i (length l)))
 
-no_digit : (b : ℕ) → b ≡ line_feed → digit_of b ≡ 16
+no_digit : (b : ℕ) → b ≡ line_feed → digit_of b ≡ None
 unfolding digit_of
 no_digit b e = rw e
 
-digit_plain : (l : List ℕ) (i : ℕ) → digit_at l i < 16 → byte_is l i line_feed ≡ false
+digit_plain : (l : List ℕ) (i : ℕ) → is_some (digit_at l i) ≡ true → byte_is l i line_feed ≡ false
 unfolding digit_at byte_is
 digit_plain l i h = go (ltb i (length l)) (eqb (get_or l i 0) line_feed) refl h
   where
-    go : (b d : Bool) → eqb (get_or l i 0) line_feed ≡ d → cond b (digit_of (get_or l i 0)) 16 < 16 → b && d ≡ false
-    go true true e h = absurd (omega (arith, no_digit (get_or l i 0) (eqb-true _ _ e)))
+    go : (b d : Bool) → eqb (get_or l i 0) line_feed ≡ d → is_some (cond b (digit_of (get_or l i 0)) None) ≡ true → b && d ≡ false
+    go true true e h = absurd (false≢true (sym (ap is_some (no_digit (get_or l i 0) (eqb-true _ _ e))) ∙ h))
     go true false e h = refl
     go false d e h = refl
 
-four_digits : (l : List ℕ) (at : ℕ) → four_at l at < 65536 → Plain l at 4
-unfolding four_at
-four_digits l at h = go (ltb (digit_at l at) 16) (ltb (digit_at l (at + 1)) 16) (ltb (digit_at l (at + 2)) 16) (ltb (digit_at l (at + 3)) 16) _ refl refl refl refl h
-  where
-    go : (a b c d : Bool) (n : ℕ) → ltb (digit_at l at) 16 ≡ a → ltb (digit_at l (at + 1)) 16 ≡ b → ltb (digit_at l (at + 2)) 16 ≡ c → ltb (digit_at l (at + 3)) 16 ≡ d → cond (a && b && c && d) n 65536 < 65536 → Plain l at 4
-    go true true true true n e f g k h zero i = plain_one l at (digit_plain l at (ltb-true _ _ e)) 0 (lit< tt)
-    go true true true true n e f g k h (suc zero) i = digit_plain l (at + 1) (ltb-true _ _ f)
-    go true true true true n e f g k h (suc (suc zero)) i = digit_plain l (at + 2) (ltb-true _ _ g)
-    go true true true true n e f g k h (suc (suc (suc zero))) i = digit_plain l (at + 3) (ltb-true _ _ k)
-    go true true true true n e f g k h (suc (suc (suc (suc m)))) i = absurd (omega arith)
-    go true true true false n e f g k h j i = absurd (omega arith)
-    go true true false d n e f g k h j i = absurd (omega arith)
-    go true false c d n e f g k h j i = absurd (omega arith)
-    go false b c d n e f g k h j i = absurd (omega arith)
-
 word_plain : (l : List ℕ) (at : ℕ) → is_word l at ≡ true → Plain l at 8
-word_plain l at e = let f = word_fours l at e in plain_append l at 4 4 (four_digits l at f.0) (four_digits l (at + 4) f.1)
+word_plain l at e i h = digit_plain l (at + i) (word_digits l at e i h)
+
+decimal_plain : (l : List ℕ) (i d : ℕ) → decimal_digit_at l i ≡ Some d → byte_is l i line_feed ≡ false
+unfolding decimal_digit_at
+decimal_plain l i d = go (digit_at l i) refl
+  where
+    go : (x : Option ℕ) → digit_at l i ≡ x → x >>= (λ d. cond (ltb d 10) (Some d) None) ≡ Some d → byte_is l i line_feed ≡ false
+    go (Some n) e h = digit_plain l i (ap is_some e)
+    go None e h = cc
 
 -- ---- keys and whole lines
 
@@ -108,49 +104,45 @@ stands_line l at w n q z f e = (
 -- ---- the lines
 
 -- a line that is right is one
-abbrev pub Ends : List ℕ → ℕ → Line → Type 0
-Ends l at (Value v next) = IsLine l at next
-Ends l at Wrong = Unit {0}
+abbrev pub Ends : List ℕ → ℕ → Option Line → Type 0
+Ends l at (Some line) = IsLine l at line.next
+Ends l at None = Unit {0}
 
-ends-cond : (l : List ℕ) (at : ℕ) (b : Bool) (x y : Line) → (b ≡ true → Ends l at x) → Ends l at y → Ends l at (cond b x y)
+ends-cond : (l : List ℕ) (at : ℕ) (b : Bool) (x y : Option Line) → (b ≡ true → Ends l at x) → Ends l at y → Ends l at (cond b x y)
 ends-cond l at true x y h g = h refl
 ends-cond l at false x y h g = g
 
-ends-behind : (l : List ℕ) (at m : ℕ) (x : Line) → Plain l at m → Ends l (at + m) x → Ends l at x
-ends-behind l at m (Value v next) p h = line_append l at m next p h
-ends-behind l at m Wrong p h = tt
+ends-behind : (l : List ℕ) (at m : ℕ) (x : Option Line) → Plain l at m → Ends l (at + m) x → Ends l at x
+ends-behind l at m (Some line) p h = line_append l at m line.next p h
+ends-behind l at m None p h = tt
 
 decimal_ends : (l : List ℕ) (at : ℕ) → Ends l at (decimal_at l at)
 unfolding decimal_at
-decimal_ends l at =
-    let a = digit_at l at in
-    let b = digit_at l (at + 1) in
-    let more = cond (ltb a 10 && ltb b 10 && byte_is l (at + 2) line_feed) (Value (a * 10 + b) (at + 3)) Wrong in
-    ends-cond l at (ltb a 10 && byte_is l (at + 1) line_feed) (Value a (at + 2)) more one (ends-cond l at (ltb a 10 && ltb b 10 && byte_is l (at + 2) line_feed) (Value (a * 10 + b) (at + 3)) Wrong two tt)
+decimal_ends l at = go (decimal_digit_at l at) (decimal_digit_at l (at + 1)) refl refl
   where
-    digit : (i : ℕ) → ltb (digit_at l i) 10 ≡ true → byte_is l i line_feed ≡ false
-    digit i e = digit_plain l i (omega (arith, ltb-true (digit_at l i) 10 e))
-
-    one : ltb (digit_at l at) 10 && byte_is l (at + 1) line_feed ≡ true → IsLine l at (at + 2)
-    one e = let f = (and-eq-true_iff (ltb (digit_at l at) 10) (byte_is l (at + 1) line_feed)).0 e in (1, omega arith, plain_one l at (digit at f.0), f.1)
-
-    two : ltb (digit_at l at) 10 && ltb (digit_at l (at + 1)) 10 && byte_is l (at + 2) line_feed ≡ true → IsLine l at (at + 3)
-    two e =
-        let f = (and-eq-true_iff (ltb (digit_at l at) 10 && ltb (digit_at l (at + 1)) 10) (byte_is l (at + 2) line_feed)).0 e in
-        let g = (and-eq-true_iff (ltb (digit_at l at) 10) (ltb (digit_at l (at + 1)) 10)).0 f.0 in
-        (2, omega arith, plain_append l at 1 1 (plain_one l at (digit at g.0)) (plain_one l (at + 1) (digit (at + 1) g.1)), f.1)
+    go : (x y : Option ℕ) → decimal_digit_at l at ≡ x → decimal_digit_at l (at + 1) ≡ y
+        → Ends l at (x >>= (λ a. cond (byte_is l (at + 1) line_feed) (right a (at + 2)) (y >>= (λ b. cond (byte_is l (at + 2) line_feed) (right (a * 10 + b) (at + 3)) None))))
+    go (Some a) (Some b) e f =
+        ends-cond l at (byte_is l (at + 1) line_feed) (right a (at + 2)) _ (λ h. (1, omega arith, plain_one l at (decimal_plain l at a e), h))
+        (ends-cond l at (byte_is l (at + 2) line_feed) (right (a * 10 + b) (at + 3)) None
+        (λ h. (2, omega arith, plain_append l at 1 1 (plain_one l at (decimal_plain l at a e)) (plain_one l (at + 1) (decimal_plain l (at + 1) b f)), h)) tt)
+    go (Some a) None e f = ends-cond l at (byte_is l (at + 1) line_feed) (right a (at + 2)) None (λ h. (1, omega arith, plain_one l at (decimal_plain l at a e), h)) tt
+    go None y e f = tt
 
 decimal_line_ends : (l : List ℕ) (at : ℕ) (key : List ℕ) → NoFeed key (length key) → Ends l at (decimal_line l at key)
 unfolding decimal_line
-decimal_line_ends l at key f = ends-cond l at (stands_at l at key) (decimal_at l (at + length key)) Wrong (λ e. ends-behind l at (length key) (decimal_at l (at + length key)) (stands_plain l at key (length key) (omega arith) e f) (decimal_ends l (at + length key))) tt
+decimal_line_ends l at key f = ends-cond l at (stands_at l at key) (decimal_at l (at + length key)) None (λ e. ends-behind l at (length key) (decimal_at l (at + length key)) (stands_plain l at key (length key) (omega arith) e f) (decimal_ends l (at + length key))) tt
 
 word_line_ends : (l : List ℕ) (at : ℕ) (key : List ℕ) → NoFeed key (length key) → Ends l at (word_line l at key)
 unfolding word_line word_line_at
-word_line_ends l at key f = ends-cond l at (stands_at l at key) (word_line_at l (at + length key)) Wrong (λ e. ends-behind l at (length key) (word_line_at l (at + length key)) (stands_plain l at key (length key) (omega arith) e f) (word (at + length key))) tt
+word_line_ends l at key f = ends-cond l at (stands_at l at key) (word_line_at l (at + length key)) None (λ e. ends-behind l at (length key) (word_line_at l (at + length key)) (stands_plain l at key (length key) (omega arith) e f) (word (at + length key))) tt
   where
-    word : (from : ℕ) → Ends l from (cond (is_word l from && byte_is l (from + 8) line_feed) (Value (word_at l from) (from + 9)) Wrong)
-    word from = ends-cond l from (is_word l from && byte_is l (from + 8) line_feed) _ Wrong
-        (λ e. let g = (and-eq-true_iff (is_word l from) (byte_is l (from + 8) line_feed)).0 e in (8, omega arith, word_plain l from g.0, g.1)) tt
+    word : (from : ℕ) → Ends l from (word_at l from >>= (λ w. cond (byte_is l (from + 8) line_feed) (right w (from + 9)) None))
+    word from = go (word_at l from) refl
+      where
+        go : (x : Option ℕ) → word_at l from ≡ x → Ends l from (x >>= (λ w. cond (byte_is l (from + 8) line_feed) (right w (from + 9)) None))
+        go (Some w) e = ends-cond l from (byte_is l (from + 8) line_feed) (right w (from + 9)) None (λ h. (8, omega arith, word_plain l from (unfold is_word in ap is_some e), h)) tt
+        go None e = tt
 
 -- a word that is a whole line
 abbrev IsWhole : List ℕ → ℕ → Type 0
@@ -159,22 +151,13 @@ IsWhole w n = (length w ≡ n + 1) × (get_or w n 0 ≡ line_feed) × NoFeed w n
 either-ends : (l : List ℕ) (at : ℕ) (v w : List ℕ) (m n : ℕ) → IsWhole v m → IsWhole w n → Ends l at (either_line l at v w)
 unfolding either_line
 either-ends l at v w m n f g =
-    ends-cond l at (stands_at l at v) _ _ (stands_line l at v m f.0 f.1 f.2) (ends-cond l at (stands_at l at w) _ Wrong (stands_line l at w n g.0 g.1 g.2) tt)
+    ends-cond l at (stands_at l at v) _ _ (stands_line l at v m f.0 f.1 f.2) (ends-cond l at (stands_at l at w) _ None (stands_line l at w n g.0 g.1 g.2) tt)
 
-head_ends : (l : List ℕ) (number at : ℕ) → Ends l at (head_line l number at)
-unfolding head_line later_line type_line ascii all_below
-head_ends l number at =
-    ends-cond l at (eqb number 0) _ _ (λ _. decimal_line_ends l at (ascii "degree=") refl)
-    (ends-cond l at (eqb number 1) _ _ (λ _. either-ends l at (ascii "basis=bezier\n") (ascii "basis=bspline\n") 12 13 (refl, refl, refl) (refl, refl, refl))
-    (ends-cond l at (eqb number 2) _ _ (λ _. type)
-    (ends-cond l at (eqb number 3) _ _ (λ _. word_line_ends l at (ascii "width0=") refl)
-    (ends-cond l at (eqb number 4) _ _ (λ _. word_line_ends l at (ascii "width1=") refl)
-    (ends-cond l at (eqb number 5) _ _ (λ _. decimal_line_ends l at (ascii "splitdepth=") refl)
-    (either-ends l at (ascii "reverse=0\n") (ascii "reverse=1\n") 9 9 (refl, refl, refl) (refl, refl, refl)))))))
-  where
-    type : Ends l at (cond (stands_at l at (ascii "type=cylinder\n")) (Value 2 (at + 14)) (either_line l at (ascii "type=flat\n") (ascii "type=ribbon\n")))
-    type = ends-cond l at (stands_at l at (ascii "type=cylinder\n")) _ _ (stands_line l at (ascii "type=cylinder\n") 13 refl refl refl)
-        (either-ends l at (ascii "type=flat\n") (ascii "type=ribbon\n") 9 11 (refl, refl, refl) (refl, refl, refl))
+type_ends : (l : List ℕ) (at : ℕ) → Ends l at (type_line l at)
+unfolding type_line ascii all_below
+type_ends l at =
+    ends-cond l at (stands_at l at (ascii "type=cylinder\n")) _ _ (stands_line l at (ascii "type=cylinder\n") 13 refl refl refl)
+    (either-ends l at (ascii "type=flat\n") (ascii "type=ribbon\n") 9 11 (refl, refl, refl) (refl, refl, refl))
 
 -- ---- rows
 
@@ -217,11 +200,19 @@ row_line_lem l at key n f h e =
     let g = (and-eq-true_iff (stands_at l at key) (is_floats l (at + length key) n)).0 e in
     subst (IsLine l at) (add_assoc at (length key) (n * float_size)) (line_append l at (length key) _ (stands_plain l at key (length key) (omega arith) g.0 f) (floats_line l (at + length key) n h g.1))
 
+row_ends : (l : List ℕ) (at : ℕ) (key : List ℕ) (n : ℕ) → NoFeed key (length key) → 0 < n → Ends l at (row_at l at key n)
+unfolding row_at
+row_ends l at key n f p = ends-cond l at (is_row l at key n) (right n (at + row_size key n)) None (row_line_lem l at key n f p) tt
+
 -- THE LAW: a line of any kind that is right is one line
-pub line_ends : (l : List ℕ) (kind at : ℕ) → Ends l at (line_at l kind at)
-unfolding line_at row_line row_at row_key row_floats ascii all_below
-line_ends l kind at = ends-cond l at (ltb kind head_lines) _ _ (λ _. head_ends l kind at) (row (eqb kind point_line))
-  where
-    row : (b : Bool) → Ends l at (cond (is_row l at (cond b point_key ray_key) (cond b point_floats ray_floats)) (Value (cond b point_floats ray_floats) (at + row_size (cond b point_key ray_key) (cond b point_floats ray_floats))) Wrong)
-    row true = ends-cond l at (is_row l at point_key point_floats) _ Wrong (row_line_lem l at point_key point_floats refl (lit< tt)) tt
-    row false = ends-cond l at (is_row l at ray_key ray_floats) _ Wrong (row_line_lem l at ray_key ray_floats refl (lit< tt)) tt
+pub line_ends : (l : List ℕ) (kind : Kind) (at : ℕ) → Ends l at (line_at l kind at)
+unfolding row_line ascii all_below
+line_ends l kind.Degree at = decimal_line_ends l at (ascii "degree=") refl
+line_ends l kind.Basis at = either-ends l at (ascii "basis=bezier\n") (ascii "basis=bspline\n") 12 13 (refl, refl, refl) (refl, refl, refl)
+line_ends l kind.«Type» at = type_ends l at
+line_ends l kind.Width0 at = word_line_ends l at (ascii "width0=") refl
+line_ends l kind.Width1 at = word_line_ends l at (ascii "width1=") refl
+line_ends l kind.SplitDepth at = decimal_line_ends l at (ascii "splitdepth=") refl
+line_ends l kind.Reverse at = either-ends l at (ascii "reverse=0\n") (ascii "reverse=1\n") 9 9 (refl, refl, refl) (refl, refl, refl)
+line_ends l (kind.Row row.Point) at = row_ends l at point_key point_floats refl (lit< tt)
+line_ends l (kind.Row row.Beam) at = row_ends l at ray_key ray_floats refl (lit< tt)

@@ -13,7 +13,10 @@ use Rattle.limits.proofs.Below.{all-at}
 use Rattle.text.specs.Ascii.{ascii}
 use Rattle.text.proofs.Places.{byte_within}
 use Rattle.grammar.specs.Grammar.{most_bytes, room_points, is_row, row_size, point_key, run_below, rows_from}
-use Rattle.grammar.specs.declared.head.Cursor.{Cursor}
+use Rattle.std.specs.Prelude.{Result, is_ok}
+use Rattle.grammar.specs.Head.{head_end}
+use Rattle.grammar.specs.declared.head.Head.{Head}
+use Rattle.grammar.specs.declared.head.WrongLine.{WrongLine}
 use Rattle.grammar.proofs.Runs.{run-passes, run_longer}
 use Rattle.sheet.specs.Sheet.{point_count}
 use Rattle.sheet.proofs.OneLine.{IsLine, NoFeed, row_line_lem}
@@ -34,15 +37,15 @@ unfolding rows_from row_size ascii all_below
 rows_fit l at most h = omega (arith, rows-within l at point_key point_floats (run_below most (λ j. is_row l (at + j * row_size point_key point_floats) point_key point_floats)) refl (lit< tt) (run-passes most _))
 
 -- THE POINTS FIT
-pub points-fit : (l : List ℕ) (c : Cursor) → length l ≤ most_bytes → point_count l c < room_points
+pub points-fit : (l : List ℕ) (c : Result Head WrongLine) → length l ≤ most_bytes → point_count l c < room_points
 unfolding point_count
-points-fit l c h = go c.ok
+points-fit l c h = go (is_ok c)
   where
-    go : (b : Bool) → cond b (rows_from l c.at point_key point_floats room_points) 0 < room_points
-    go true = rows_fit l c.at room_points h
+    go : (b : Bool) → cond b (rows_from l (head_end c) point_key point_floats room_points) 0 < room_points
+    go true = rows_fit l (head_end c) room_points h
     go false = lit< tt
 
 -- NONE IS CUT OFF: with room for any more, there are as many
-pub points_uncapped : (l : List ℕ) (c : Cursor) (most : ℕ) → length l ≤ most_bytes → room_points ≤ most → cond c.ok (rows_from l c.at point_key point_floats most) 0 ≡ point_count l c
+pub points_uncapped : (l : List ℕ) (c : Result Head WrongLine) (most : ℕ) → length l ≤ most_bytes → room_points ≤ most → cond (is_ok c) (rows_from l (head_end c) point_key point_floats most) 0 ≡ point_count l c
 unfolding point_count rows_from
-points_uncapped l c most h m = ap (λ (k : ℕ). cond c.ok k 0) (run_longer room_points most _ m (rows_fit l c.at room_points h))
+points_uncapped l c most h m = ap (λ (k : ℕ). cond (is_ok c) k 0) (run_longer room_points most _ m (rows_fit l (head_end c) room_points h))

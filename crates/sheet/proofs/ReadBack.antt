@@ -20,27 +20,28 @@ use Rattle.geometry.specs.Point.{point_floats}
 use Rattle.grammar.specs.Head.{head_of}
 use Rattle.sheet.specs.Sheet.{most_rays, rays_from, rays_read, point_count, rays_at, ray_count, right_end, is_whole, points_of, rays_of, no_rays, params_in, with_curves, sheet_within, sheet_of, list_within, list_of}
 use Rattle.sheet.specs.Written.{Text, IsText, IsWord, IsRowOf, basis_of, type_of, line_of, head_text, commas, rows_text, text_of, rows_floats, head_at, head_written}
-use Rattle.grammar.specs.declared.head.Cursor.{Cursor}
+use Rattle.std.specs.Prelude.{Result, Ok}
+use Rattle.grammar.specs.declared.head.WrongLine.{WrongLine}
 use Rattle.grammar.specs.declared.head.Head.{Head}
 use Rattle.sheet.proofs.HeadBack.{head_back}
 use Rattle.sheet.proofs.RowsBack.{rows_back, end_no_row, ray_no_point, rows-count}
 
 -- What is read of a text l with the numbers t: all that was written.
 pub record ReadBack (t : Text) (l : List ℕ) : Type 0 where
-  pub head : head_of l ≡ head_written t
-  pub point-count : point_count l (head_of l).cursor ≡ length t.points
-  pub ray-count : ray_count l (head_of l).cursor ≡ length t.rays
-  pub whole : is_whole l (head_of l).cursor ≡ true
-  pub points : points_of l (head_of l).cursor ≡ rows_floats t.points
-  pub rays : rays_of l (head_of l).cursor ≡ rows_floats t.rays
+  pub head : head_of l ≡ Ok (head_written t)
+  pub point-count : point_count l (head_of l) ≡ length t.points
+  pub ray-count : ray_count l (head_of l) ≡ length t.rays
+  pub whole : is_whole l (head_of l) ≡ true
+  pub points : points_of l (head_of l) ≡ rows_floats t.points
+  pub rays : rays_of l (head_of l) ≡ rows_floats t.rays
 
 -- points and rays behind a head that ends at a place
 rows_whole :
     (l : List ℕ) (at : ℕ) (t : Text)
     → IsText t
     → Reads l at (rows_text point_key t.points ++ rows_text ray_key t.rays)
-    → (c : Cursor)
-    → c ≡ (head_at t at).cursor
+    → (c : Result Head WrongLine)
+    → c ≡ Ok (head_at t at)
     → (point_count l c ≡ length t.points) × (ray_count l c ≡ length t.rays) × (is_whole l c ≡ true) × (points_of l c ≡ rows_floats t.points) × (rays_of l c ≡ rows_floats t.rays)
 unfolding point_count rays_at rays_from ray_count right_end is_whole points_of rays_read rays_of row_size ascii
 rows_whole l at t i h c q =
@@ -63,7 +64,7 @@ unfolding text_of
 read_back t i =
     let l = text_of t in
     let h = head_back l t _ i (subst (Reads l 0) (append_assoc (head_text t) (rows_text point_key t.points) (rows_text ray_key t.rays)) (reads_start l)) in
-    let r = rows_whole l (length (head_text t)) t i h.1 (head_of l).cursor (ap (λ (x : Head). x.cursor) h.0) in
+    let r = rows_whole l (length (head_text t)) t i h.1 (head_of l) h.0 in
     record { head = h.0; point-count = r.0; ray-count = r.1; whole = r.2; points = r.3; rays = r.4 }
 
 -- the parameters that were written
@@ -78,13 +79,23 @@ pub sheet_back :
     → (room : ℕ)
     → sheet_of (text_of t) room ≡ with_curves (head_written t) (length t.rays) (over no_rays 0 (rows_floats t.rays)) (created_of (rows_floats t.points) (params_written t) room)
 unfolding sheet_of sheet_within params_in
-sheet_back t i s room = let b = read_back t i in rw (le-ltb most_bytes (length (text_of t)) s, b.whole, b.ray-count, b.points, b.rays, b.head)
+sheet_back t i s room =
+    let b = read_back t i in
+    let whole = rw b.head at b.whole in
+    let rays = rw b.head at b.ray-count in
+    let points = rw b.head at b.points in
+    let floats = rw b.head at b.rays in
+    rw (le-ltb most_bytes (length (text_of t)) s, b.head, whole, rays, points, floats)
 
 pub list_back : (t : Text) → IsText t → length (text_of t) ≤ most_bytes → (list : List Float) → list_of (text_of t) list ≡ list_after (rows_floats t.points) (params_written t) list
 unfolding list_of list_within params_in
-list_back t i s list = let b = read_back t i in rw (le-ltb most_bytes (length (text_of t)) s, b.whole, b.points, b.head)
+list_back t i s list =
+    let b = read_back t i in
+    let whole = rw b.head at b.whole in
+    let points = rw b.head at b.points in
+    rw (le-ltb most_bytes (length (text_of t)) s, b.head, whole, points)
 
--- ---- the whole case of 01: it can be written, and these are its bytes
+-- ---- an example: it can be written, and these are its bytes
 
 abbrev example : Text
 example = record {

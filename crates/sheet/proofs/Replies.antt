@@ -11,43 +11,25 @@ use lib.Seq.{take_at}
 use Rattle.create.specs.Create.{params_of, created_of, list_after}
 use Rattle.geometry.specs.Ray.{ray_floats}
 use Rattle.limits.specs.List.{over, up_to}
-use Rattle.create.specs.declared.create.Created.{Created}
+use Rattle.limits.specs.declared.refusal.Refusal.{Refusal}
+use Rattle.limits.specs.declared.refusal.Refusal.TheVariants as refusal
+use Rattle.sheet.specs.declared.SheetRefusal.{SheetRefusal}
 use Rattle.limits.proofs.Lists.{over_nil, over-length, length-up_to}
 use Rattle.grammar.specs.Grammar.{row_size, point_key, ray_key, rows_from, floats_from, room_points, most_bytes}
 use Rattle.geometry.specs.Point.{point_floats}
-use Rattle.sheet.specs.Sheet.{most_rays, rays_from, rays_read, point_count, points_of, rays_at, ray_count, rays_of, lines_right, right_end, is_whole, no_rays, refused_with, params_in, with_curves, sheet_within, list_within, sheet_of, list_of}
-use Rattle.grammar.specs.Head.{head_of}
-use Rattle.grammar.specs.declared.head.Cursor.{Cursor}
+use Rattle.sheet.specs.Sheet.{most_rays, rays_from, rays_read, point_count, points_of, rays_at, ray_count, rays_of, lines_right, right_end, is_whole, no_rays, refused_with, params_in, with_curves, sheet_behind, sheet_within, list_behind, list_within, sheet_of, list_of}
+use Rattle.std.specs.Prelude.{Result, Ok, Err, is_ok}
+use Rattle.grammar.specs.Head.{head_of, head_end}
+use Rattle.grammar.specs.declared.head.WrongLine.{WrongLine}
+use Rattle.grammar.specs.declared.reader.Reader.{Reader}
 use Rattle.grammar.specs.declared.head.Head.{Head}
 use Rattle.sheet.specs.declared.Sheet.{Sheet}
 use Rattle.grammar.proofs.Floats.{length-floats}
 use Rattle.grammar.proofs.Runs.{run-most}
 
--- ---- points and rays
-
--- no row
-no_floats : (l : List ℕ) (at : ℕ) (key : List ℕ) (n : ℕ) (out : List Float) → out ≡ over out 0 (floats_from l at key n 0)
-unfolding floats_from up_to
-no_floats l at key n out = sym (over_nil out 0)
-
--- the rows of a key where a test passes, and none where it fails
-module _ (l : List ℕ) (at : ℕ) (key : List ℕ) (n most : ℕ) (out : List Float) (b : Bool) where
-  abbrev rows : ℕ
-  rows = cond b (rows_from l at key n most) 0
-
-  pub rows-read : (out' : List Float) (r : ℕ) → b ≡ true → (r ≡ rows_from l at key n most) × (out' ≡ over out 0 (floats_from l at key n r)) → (r ≡ rows) × (out' ≡ over out 0 (floats_from l at key n rows))
-  rows-read out' r e h =
-      let p : r ≡ rows = h.0 ∙ ap (λ t. cond t (rows_from l at key n most) 0) (sym e) in
-      (p, h.1 ∙ ap (λ k. over out 0 (floats_from l at key n k)) p)
-
-  pub rows_none : b ≡ false → (0 ≡ rows) × (out ≡ over out 0 (floats_from l at key n rows))
-  rows_none e =
-      let p : 0 ≡ rows = ap (λ t. cond t (rows_from l at key n most) 0) (sym e) in
-      (p, no_floats l at key n out ∙ ap (λ k. over out 0 (floats_from l at key n k)) p)
-
 -- ---- the curves
 
-pub made : (h : Head) (n : ℕ) (rays points list list' : List Float) (w0 w1 : Float) (created : Created) (room : ℕ) → w0 ≡ of_bits binary32 h.width0 → w1 ≡ of_bits binary32 h.width1
+pub made : (h : Head) (n : ℕ) (rays points list list' : List Float) (w0 w1 : Float) (created : Result ℕ Refusal) (room : ℕ) → w0 ≡ of_bits binary32 h.width0 → w1 ≡ of_bits binary32 h.width1
     → (created ≡ created_of points (params_of h.degree h.basis h.ty w0 w1 h.splitdepth) room) × (list' ≡ list_after points (params_of h.degree h.basis h.ty w0 w1 h.splitdepth) list)
     → (with_curves h n rays created ≡ with_curves h n rays (created_of points (params_in h) room)) × (list' ≡ list_after points (params_in h) list)
 unfolding params_in
@@ -62,9 +44,9 @@ cond-most : (b : Bool) (x most : ℕ) → x ≤ most → cond b x 0 ≤ most
 cond-most true x most h = h
 cond-most false x most h = omega arith
 
-pub points-most : (l : List ℕ) (c : Cursor) (p : ℕ) → p ≡ point_count l c → p ≤ room_points
+pub points-most : (l : List ℕ) (c : Result Head WrongLine) (p : ℕ) → p ≡ point_count l c → p ≤ room_points
 unfolding point_count rows_from
-points-most l c p e = rw e (cond-most c.ok _ room_points (run-most room_points _))
+points-most l c p e = rw e (cond-most (is_ok c) _ room_points (run-most room_points _))
 
 pub rays-most : (l : List ℕ) (at points n : ℕ) → n ≡ rays_from l at points → n ≤ most_rays
 unfolding rays_from rows_from
@@ -72,49 +54,58 @@ rays-most l at points n e = rw e (cond-most (ltb 0 points) _ most_rays (run-most
 
 -- ---- the points that are lent
 
-points-length : (l : List ℕ) (c : Cursor) → length (points_of l c) ≡ point_count l c * point_floats
+points-length : (l : List ℕ) (c : Result Head WrongLine) → length (points_of l c) ≡ point_count l c * point_floats
 unfolding points_of floats_from
 points-length l c = length-up_to _ point_floats (point_count l c) (λ j. length-floats l _ point_floats)
 
-pub points-lent : (l : List ℕ) (c : Cursor) (d : List Float) (p : ℕ) → p ≡ point_count l c → take (p * point_floats) (over d 0 (points_of l c)) ≡ points_of l c
+pub points-lent : (l : List ℕ) (c : Result Head WrongLine) (d : List Float) (p : ℕ) → p ≡ point_count l c → take (p * point_floats) (over d 0 (points_of l c)) ≡ points_of l c
 unfolding over
 points-lent l c d p e = take_at (points_of l c) _ (p * point_floats) (points-length l c ∙ ap (λ k. k * point_floats) (sym e))
 
--- they are within the array
-pub points_room : (l : List ℕ) (c : Cursor) (d out : List Float) (p : ℕ) → p ≡ point_count l c → out ≡ over d 0 (points_of l c) → room_points * point_floats ≤ length d → p * point_floats ≤ length out
-unfolding points_of floats_from
-points_room l c d out p e q room =
-    let m = points-most l c p e in
-    let long = over-length d 0 _ point_floats (point_count l c) (λ j. length-floats l _ point_floats) (omega (arith, e)) in
-    omega (arith, ap length q ∙ long)
+-- of the room that they are read into
+pub points_taken : (l : List ℕ) (h : Head) (d out : List Float) (p : ℕ) → p ≡ rows_from l h.end point_key point_floats room_points → out ≡ over d 0 (floats_from l h.end point_key point_floats p) → take (p * point_floats) out ≡ points_of l (Ok h)
+unfolding points_of point_count
+points_taken l h d out p e f =
+    let lent = points-lent l (Ok h) d p (unfold point_count in e) in
+    ap (take (p * point_floats)) (f ∙ ap (λ (k : ℕ). over d 0 (floats_from l h.end point_key point_floats k)) e) ∙ lent
 
 -- ---- a sheet that is not too long
 
-module _ (l : List ℕ) (h : Head) (p n : ℕ) (rays : List Float) (e : h ≡ head_of l) (f : p ≡ point_count l h.cursor)
-    (g : (n ≡ rays_from l (h.cursor.at + p * row_size point_key point_floats) p) × (rays ≡ over no_rays 0 (rays_read l (h.cursor.at + p * row_size point_key point_floats) p))) where
-  -- the test
-  whole_is : is_whole l (head_of l).cursor ≡ (ltb 0 p && eqb (h.cursor.at + p * row_size point_key point_floats + n * row_size ray_key ray_floats) (length l))
-  unfolding is_whole right_end rays_at ray_count
-  whole_is = rw (← e, ← f, ← g.0)
+-- a head that is right, p points, and n rays behind them: first stands behind the points, and last behind the rays
+module _ (l : List ℕ) (h : Head) (p n : ℕ) (first last : Reader) (rays : List Float)
+    (e : Ok h ≡ head_of l)
+    (f : p ≡ rows_from l h.end point_key point_floats room_points)
+    (a : (first.src.now ≡ l) × (first.at ≡ h.end + p * row_size point_key point_floats))
+    (g : (n ≡ rays_from first.src.now first.at p) × (rays ≡ over no_rays 0 (rays_read first.src.now first.at p)))
+    (b : last.at ≡ first.at + n * row_size ray_key ray_floats) where
+  pub points_are : p ≡ point_count l (Ok h)
+  unfolding point_count
+  points_are = f
 
-  pub within-whole : (list list' points : List Float) (room : ℕ) (r : Sheet) → (ltb 0 p && eqb (h.cursor.at + p * row_size point_key point_floats + n * row_size ray_key ray_floats) (length l)) ≡ true → points ≡ points_of l h.cursor
+  there : n ≡ rays_from l (h.end + p * row_size point_key point_floats) p
+  there = g.0 ∙ ap₂ (λ s i. rays_from s i p) a.0 a.1
+
+  floats : rays ≡ over no_rays 0 (rays_read l (h.end + p * row_size point_key point_floats) p)
+  floats = g.1 ∙ ap₂ (λ s i. over no_rays 0 (rays_read s i p)) a.0 a.1
+
+  -- the test
+  whole_is : is_whole l (Ok h) ≡ (ltb 0 p && eqb last.at (length l))
+  unfolding is_whole right_end rays_at ray_count
+  whole_is = rw (← points_are, ← there, ← a.1, ← b)
+
+  pub within-whole : (list list' points : List Float) (room : ℕ) (r : Result Sheet SheetRefusal) → (ltb 0 p && eqb last.at (length l)) ≡ true → points ≡ points_of l (Ok h)
       → (r ≡ with_curves h n rays (created_of points (params_in h) room)) × (list' ≡ list_after points (params_in h) list)
       → (r ≡ sheet_within l room) × (list' ≡ list_within l list)
   unfolding sheet_within list_within rays_at ray_count rays_of
   within-whole list list' points room r t q k =
-      (rw (whole_is, t, ← e, ← f, ← g.0, ← g.1, ← q) k.0, rw (whole_is, t, ← e, ← q) k.1)
+      (rw (← e, whole_is, t, ← points_are, ← there, ← floats, ← q) k.0, rw (← e, whole_is, t, ← q) k.1)
 
-  pub within_wrong : (list : List Float) (room : ℕ) (r : Sheet) → (ltb 0 p && eqb (h.cursor.at + p * row_size point_key point_floats + n * row_size ray_key ray_floats) (length l)) ≡ false
-      → r ≡ refused_with 17 (h.cursor.lines + p + n + 1) → (r ≡ sheet_within l room) × (list ≡ list_within l list)
+  pub within_wrong : (list : List Float) (room : ℕ) (r : Result Sheet SheetRefusal) → (ltb 0 p && eqb last.at (length l)) ≡ false
+      → r ≡ refused_with refusal.WrongLine (7 + p + n + 1) → (r ≡ sheet_within l room) × (list ≡ list_within l list)
   unfolding sheet_within list_within lines_right rays_at ray_count
-  within_wrong list room r t k = (rw (whole_is, t, ← e, ← f, ← g.0) k, rw (whole_is, t))
+  within_wrong list room r t k = (rw (← e, whole_is, t, ← points_are, ← there) k, rw (← e, whole_is, t))
 
--- ---- any sheet
-
-pub too_long : (l : List ℕ) (list : List Float) (room : ℕ) (r : Sheet) → ltb most_bytes (length l) ≡ true → r ≡ refused_with 18 0 → (r ≡ sheet_of l room) × (list ≡ list_of l list)
-unfolding sheet_of list_of
-too_long l list room r t k = (rw t k, rw t)
-
-pub not_too_long : (l : List ℕ) (list list' : List Float) (room : ℕ) (r : Sheet) → ltb most_bytes (length l) ≡ false → (r ≡ sheet_within l room) × (list' ≡ list_within l list) → (r ≡ sheet_of l room) × (list' ≡ list_of l list)
-unfolding sheet_of list_of
-not_too_long l list list' room r t k = (rw t k.0, rw t k.1)
+-- a head that is wrong
+pub within_head : (l : List ℕ) (w : WrongLine) (list : List Float) (room : ℕ) (r : Result Sheet SheetRefusal) → Err w ≡ head_of l → r ≡ refused_with refusal.WrongLine (w.lines + 1) → (r ≡ sheet_within l room) × (list ≡ list_within l list)
+unfolding sheet_within list_within lines_right ray_count rays_from point_count
+within_head l w list room r e k = (rw (← e) (k ∙ ap (refused_with refusal.WrongLine) (let same : w.lines + 1 ≡ w.lines + 0 + 0 + 1 = omega arith in same)), rw (← e))

@@ -8,31 +8,38 @@ use lib.Dec.{ltb, lit≤}
 use lib.Ieee.{Float}
 use lib.ListN.{length}
 use Rattle.create.specs.Create.{created_of}
-use Rattle.create.specs.declared.create.Created.{Created}
-use Rattle.create.specs.declared.create.Created.TheVariants as created
+use Rattle.limits.specs.declared.refusal.Refusal.{Refusal}
+use Rattle.sheet.specs.declared.SheetRefusal.{SheetRefusal}
 use Rattle.limits.specs.List.{over}
-use Rattle.grammar.specs.Head.{head_of}
-use Rattle.sheet.specs.Sheet.{most_rays, last_line, point_count, rays_at, ray_count, is_whole, points_of, rays_of, no_rays, refused_with, lines_right, ReplyWithin, params_in, with_curves, sheet_within, sheet_of}
+use Rattle.grammar.specs.Head.{head_of, head_lines_right}
+use Rattle.sheet.specs.Sheet.{most_rays, last_line, point_count, rays_from, rays_at, ray_count, is_whole, points_of, rays_of, no_rays, refused_with, lines_right, ReplyWithin, params_in, with_curves, sheet_behind, sheet_within, sheet_of}
 use Rattle.grammar.specs.Grammar.{most_bytes}
+use Rattle.std.specs.Prelude.{Result, Ok, Err}
 use Rattle.grammar.specs.declared.head.Head.{Head}
+use Rattle.grammar.specs.declared.head.WrongLine.{WrongLine}
 use Rattle.sheet.specs.declared.Sheet.{Sheet}
-use Rattle.grammar.proofs.Fields.{head_short}
+use Rattle.grammar.proofs.Heads.{head_few}
 use Rattle.sheet.proofs.Replies.{points-most, rays-most}
 
-within-either : (b : Bool) (x y : Sheet) → ReplyWithin x.reply → ReplyWithin y.reply → ReplyWithin (cond b x y).reply
+within-either : (b : Bool) (x y : Result Sheet SheetRefusal) → ReplyWithin x → ReplyWithin y → ReplyWithin (cond b x y)
 within-either true x y p q = p
 within-either false x y p q = q
 
-within_made : (h : Head) (n : ℕ) (rays : List Float) (made : Created) → n ≤ most_rays → ReplyWithin (with_curves h n rays made).reply
-unfolding refused_with
-within_made h n rays (created.Curves pieces) few = few
-within_made h n rays (created.Refused number) few = lit≤ tt
+within_made : (h : Head) (n : ℕ) (rays : List Float) (made : Result ℕ Refusal) → n ≤ most_rays → ReplyWithin (with_curves h n rays made)
+within_made h n rays (Ok pieces) few = few
+within_made h n rays (Err reason) few = lit≤ tt
 
-pub reply_within : (l : List ℕ) (room : ℕ) → ReplyWithin (sheet_of l room).reply
-unfolding sheet_of sheet_within refused_with lines_right ray_count
-reply_within l room =
-    let h = head_of l in
-    let c = h.cursor in
-    let rays = rays-most l (rays_at l c) (point_count l c) _ refl in
-    let wrong : lines_right l c + 1 ≤ last_line = omega (arith, (head_short l h refl).1, points-most l c _ refl, rays) in
-    within-either (ltb most_bytes (length l)) _ _ (lit≤ tt) (within-either (is_whole l c) _ _ (within_made h _ (over no_rays 0 (rays_of l c)) (created_of (points_of l c) (params_in h) room) rays) wrong)
+pub reply_within : (l : List ℕ) (room : ℕ) → ReplyWithin (sheet_of l room)
+unfolding sheet_of sheet_within lines_right ray_count
+reply_within l room = within-either (ltb most_bytes (length l)) _ _ (lit≤ tt) (behind (head_of l) (head_few l))
+  where
+    rays : (head : Result Head WrongLine) → rays_from l (rays_at l head) (point_count l head) ≤ most_rays
+    rays head = rays-most l (rays_at l head) (point_count l head) _ refl
+
+    wrong : (head : Result Head WrongLine) → head_lines_right head ≤ 7 → head_lines_right head + point_count l head + rays_from l (rays_at l head) (point_count l head) + 1 ≤ last_line
+    wrong head few = omega (arith, points-most l head _ refl, rays head)
+
+    behind : (head : Result Head WrongLine) → head_lines_right head ≤ 7 → ReplyWithin (sheet_behind l room head)
+    behind (Ok h) few =
+        within-either (is_whole l (Ok h)) _ _ (within_made h _ (over no_rays 0 (rays_of l (Ok h))) (created_of (points_of l (Ok h)) (params_in h) room) (rays (Ok h))) (wrong (Ok h) few)
+    behind (Err w) few = wrong (Err w) few

@@ -9,6 +9,7 @@ use borrow.Author.Tests.{le-ltb, ne_eqb}
 use lib.Dec.{eqb-suc-suc, lit<}
 use lib.Ieee.{Float, binary32, of_bits}
 use lib.ListN.{length, get_or}
+use Rattle.std.specs.Prelude.{unwrap_or}
 use Rattle.limits.specs.Below.{all_below}
 use Rattle.limits.specs.List.{up_to}
 use Rattle.limits.proofs.Below.{all_first, all_fails}
@@ -48,7 +49,7 @@ floats_next l at w ws r s h b f =
     let y = reads_next l (at + 8) (separator (suc (length ws)) 0 ∷ []) s x.2 in
     let z = f (rw (add_assoc at 8 1) at y) in
     let p : at + float_size + length ws * float_size ≡ at + suc (length ws) * float_size = omega arith in
-    (floats-first l at w (length ws) s h b z.0, ap₂ (λ c cs. of_bits binary32 c ∷ cs) x.1 z.1, subst (λ (k : ℕ). Reads l k r) p z.2)
+    (floats-first l at w (length ws) s h b z.0, ap₂ (λ c cs. of_bits binary32 (unwrap_or c 0) ∷ cs) x.1 z.1, subst (λ (k : ℕ). Reads l k r) p z.2)
 
 floats_back : (l : List ℕ) (at : ℕ) (w : ℕ) (ws r : List ℕ) → Reads l at (commas (w ∷ ws) ++ 10 ∷ r) → AllOf IsWord (w ∷ ws) → Floats l at (w ∷ ws) r
 unfolding commas is_floats floats_at all_below ascii separator

@@ -1,5 +1,5 @@
 -- The belt sheet: its head, then one or more points, then up to 64 rays, and its reply. Definitions only.
-use Rattle.std.specs.Prelude.{ℕ, ◌+◌, ◌*◌, ◌≤◌, Bool, cond, ◌&&◌, List, eqb, ltb, Float, length, replicate}
+use Rattle.std.specs.Prelude.{ℕ, ◌+◌, ◌*◌, ◌≤◌, Bool, cond, ◌&&◌, List, eqb, ltb, Float, length, replicate, Result, Ok, Err, is_ok}
 use Rattle.std.specs.Float.{binary32}
 use Rattle.std.specs.Float.Ieee.{of_bits}
 use Rattle.float.specs.Arith.{0f}
@@ -8,15 +8,14 @@ use Rattle.geometry.specs.Point.{point_floats}
 use Rattle.geometry.specs.Ray.{ray_floats}
 use Rattle.limits.specs.List.{over}
 use Rattle.create.specs.declared.create.Params.{Params}
-use Rattle.create.specs.declared.create.Created.{Created}
-use Rattle.create.specs.declared.create.Created.TheVariants as created
 use Rattle.grammar.specs.Grammar.{most_bytes, room_points, row_size, point_key, ray_key, rows_from, floats_from}
-use Rattle.grammar.specs.Head.{head_of}
-use Rattle.grammar.specs.declared.head.Cursor.{Cursor}
+use Rattle.grammar.specs.Head.{head_of, head_end, head_lines_right}
+use Rattle.grammar.specs.declared.head.WrongLine.{WrongLine}
 use Rattle.grammar.specs.declared.head.Head.{Head}
-use Rattle.sheet.specs.declared.Reply.{Reply}
-use Rattle.sheet.specs.declared.Reply.TheVariants.{Accepted, Refused}
+use Rattle.limits.specs.declared.refusal.Refusal.{Refusal}
+use Rattle.limits.specs.declared.refusal.Refusal.TheVariants as refusal
 use Rattle.sheet.specs.declared.Sheet.{Sheet}
+use Rattle.sheet.specs.declared.SheetRefusal.{SheetRefusal}
 
 -- ---- points and rays
 
@@ -31,17 +30,17 @@ rays_from l at points = cond (ltb 0 points) (rows_from l at ray_key ray_floats m
 unfoldable pub rays_read : List ℕ → ℕ → ℕ → List Float
 rays_read l at points = floats_from l at ray_key ray_floats (rays_from l at points)
 
-module _ (l : List ℕ) (c : Cursor) where
+module _ (l : List ℕ) (head : Result Head WrongLine) where
   -- the points start behind the head, and there is none where the head is wrong
   unfoldable pub point_count : ℕ
-  point_count = cond c.ok (rows_from l c.at point_key point_floats room_points) 0
+  point_count = cond (is_ok head) (rows_from l (head_end head) point_key point_floats room_points) 0
 
   unfoldable pub points_of : List Float
-  points_of = floats_from l c.at point_key point_floats point_count
+  points_of = floats_from l (head_end head) point_key point_floats point_count
 
   -- the rays start behind the points
   unfoldable pub rays_at : ℕ
-  rays_at = c.at + point_count * row_size point_key point_floats
+  rays_at = head_end head + point_count * row_size point_key point_floats
 
   unfoldable pub ray_count : ℕ
   ray_count = rays_from l rays_at point_count
@@ -51,7 +50,7 @@ module _ (l : List ℕ) (c : Cursor) where
 
   -- how many lines are right, from the first on
   unfoldable pub lines_right : ℕ
-  lines_right = c.lines + point_count + ray_count
+  lines_right = head_lines_right head + point_count + ray_count
 
   -- the place behind them, where the next line starts
   unfoldable pub right_end : ℕ
@@ -67,34 +66,37 @@ module _ (l : List ℕ) (c : Cursor) where
 abbrev pub no_rays : List Float
 no_rays = replicate (most_rays * ray_floats) 0f
 
-unfoldable pub refused_with : ℕ → ℕ → Sheet
-refused_with number line = record { reply = Refused number line; rays = no_rays }
+-- a refusal with its line
+abbrev pub refused_with : Refusal → ℕ → Result Sheet SheetRefusal
+refused_with reason line = Err (record { refusal = reason; line = line })
 
 unfoldable pub params_in : Head → Params
 params_in h = params_of h.degree h.basis h.ty (of_bits binary32 h.width0) (of_bits binary32 h.width1) h.splitdepth
 
--- what create_curve_shape makes of it (01: laying)
-abbrev pub with_curves : Head → ℕ → List Float → Created → Sheet
-with_curves h n rays (created.Curves pieces) = record { reply = Accepted pieces (eqb h.reverse 1) n; rays = rays }
-with_curves h n rays (created.Refused number) = refused_with number 0
+-- what create_curve_shape makes of it
+abbrev pub with_curves : Head → ℕ → List Float → Result ℕ Refusal → Result Sheet SheetRefusal
+with_curves h n rays (Ok pieces) = Ok (record { pieces = pieces; reverse = eqb h.reverse 1; ray_count = n; rays = rays })
+with_curves h n rays (Err reason) = refused_with reason 0
 
--- 17 with the first wrong line, then those of create_curve_shape
-unfoldable pub sheet_within : List ℕ → ℕ → Sheet
-sheet_within l room =
-    let h = head_of l in
-    let c = h.cursor in
-    cond (is_whole l c) (with_curves h (ray_count l c) (over no_rays 0 (rays_of l c)) (created_of (points_of l c) (params_in h) room)) (refused_with 17 (lines_right l c + 1))
+-- behind the head: the first wrong line, then the refusals of create_curve_shape
+abbrev pub sheet_behind : List ℕ → ℕ → Result Head WrongLine → Result Sheet SheetRefusal
+sheet_behind l room (Ok h) = cond (is_whole l (Ok h)) (with_curves h (ray_count l (Ok h)) (over no_rays 0 (rays_of l (Ok h))) (created_of (points_of l (Ok h)) (params_in h) room)) (refused_with refusal.WrongLine (lines_right l (Ok h) + 1))
+sheet_behind l room (Err w) = refused_with refusal.WrongLine (lines_right l (Err w) + 1)
+
+unfoldable pub sheet_within : List ℕ → ℕ → Result Sheet SheetRefusal
+sheet_within l room = sheet_behind l room (head_of l)
 
 -- a refusal leaves the list as it was
-unfoldable pub list_within : List ℕ → List Float → List Float
-list_within l list =
-    let h = head_of l in
-    let c = h.cursor in
-    cond (is_whole l c) (list_after (points_of l c) (params_in h) list) list
+abbrev pub list_behind : List ℕ → List Float → Result Head WrongLine → List Float
+list_behind l list (Ok h) = cond (is_whole l (Ok h)) (list_after (points_of l (Ok h)) (params_in h) list) list
+list_behind l list (Err w) = list
 
--- the whole answer: first 18, for more bytes
-unfoldable pub sheet_of : List ℕ → ℕ → Sheet
-sheet_of l room = cond (ltb most_bytes (length l)) (refused_with 18 0) (sheet_within l room)
+unfoldable pub list_within : List ℕ → List Float → List Float
+list_within l list = list_behind l list (head_of l)
+
+-- the whole answer: first, that there are too many bytes
+unfoldable pub sheet_of : List ℕ → ℕ → Result Sheet SheetRefusal
+sheet_of l room = cond (ltb most_bytes (length l)) (refused_with refusal.SheetTooLong 0) (sheet_within l room)
 
 -- the list afterwards
 unfoldable pub list_of : List ℕ → List Float → List Float
@@ -111,6 +113,6 @@ abbrev pub last_line : ℕ
 last_line = 7 + room_points + most_rays + 1
 
 -- how large the numbers of a reply are
-abbrev pub ReplyWithin : Reply → Type 0
-ReplyWithin (Accepted pieces reverse n) = n ≤ most_rays
-ReplyWithin (Refused number line) = line ≤ last_line
+abbrev pub ReplyWithin : Result Sheet SheetRefusal → Type 0
+ReplyWithin (Ok sheet) = sheet.ray_count ≤ most_rays
+ReplyWithin (Err e) = e.line ≤ last_line

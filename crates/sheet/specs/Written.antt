@@ -97,7 +97,6 @@ rows_floats (ws ∷ rows) = map (of_bits binary32) ws ++ rows_floats rows
 -- its head, which ends at a place
 abbrev pub head_at : Text → ℕ → Head
 head_at t at = record {
-  cursor = record { at = at; lines = 7; ok = true };
   degree = t.degree;
   basis = t.basis;
   ty = t.ty;
@@ -105,6 +104,7 @@ head_at t at = record {
   width1 = t.width1;
   splitdepth = t.splitdepth;
   reverse = t.reverse;
+  end = at;
 }
 
 abbrev pub head_written : Text → Head
