@@ -13,7 +13,10 @@ use Rattle.text.specs.Ascii.{ascii}
 use Rattle.text.specs.Digits.{decimal_text, four_text, hex_text, float_text}
 use Rattle.text.proofs.Decimal.{decimal_one, decimal_more}
 use Rattle.intersect.specs.declared.Intersection.{Intersection}
-use Rattle.intersect.specs.declared.Intersection.TheVariants.{Hit, Miss, Refused}
+use Rattle.intersect.specs.declared.Intersection.TheVariants.{Hit, Miss}
+use Rattle.std.specs.Prelude.{Result, Ok, Err}
+use Rattle.limits.specs.Refused.{number_of}
+use Rattle.limits.specs.declared.refusal.Refusal.{Refusal}
 use Rattle.report.specs.Printed.{number_text, bits_text, pieces_text, place_text, found_text, hit_text, miss_text, refused_text, answer_text, refused_sheet_text, longest}
 
 -- a number below 10 ^ (k + 1) has at most k + 1 digits
@@ -34,10 +37,10 @@ unfolding bits_text float_text hex_text four_text
 bits_long key x = length-append key (float_text x)
 
 -- the numbers of an answer are below 2 ^ 32
-abbrev pub Narrow : Intersection → Type 0
-Narrow (Hit h n) = n < 2 ^ 32
-Narrow (Miss n) = n < 2 ^ 32
-Narrow (Refused k) = k < 2 ^ 32
+abbrev pub Narrow : Result Intersection Refusal → Type 0
+Narrow (Ok (Hit h n)) = n < 2 ^ 32
+Narrow (Ok (Miss n)) = n < 2 ^ 32
+Narrow (Err reason) = number_of reason < 2 ^ 32
 
 pub pieces_most : (n : ℕ) → n < 2 ^ 32 → length (pieces_text n) ≤ longest
 unfolding pieces_text ascii
@@ -52,9 +55,9 @@ module _ (ray piece : ℕ) (r : ray < 2 ^ 32) (p : piece < 2 ^ 32) where
   unfolding place_text ascii
   place-most = rw length-append (omega (arith, number-most (ascii "beam=") ray r, number-most (ascii " piece=") piece p))
 
-  pub answer-most : (met : Intersection) → Narrow met → length (answer_text ray piece met) ≤ longest
+  pub answer-most : (met : Result Intersection Refusal) → Narrow met → length (answer_text ray piece met) ≤ longest
   unfolding hit_text miss_text refused_text found_text ascii
-  answer-most (Hit h n) l =
+  answer-most (Ok (Hit h n)) l =
       simp length-append (omega (arith, place-most, number-most (ascii " looked=") n l, bits_long (ascii " t=") h.t_hit, bits_long (ascii " u=") h.u, bits_long (ascii " v=") h.v))
-  answer-most (Miss n) l = simp length-append (omega (arith, place-most, number-most (ascii " looked=") n l))
-  answer-most (Refused k) l = simp length-append (omega (arith, place-most, number-most (ascii " refused=") k l))
+  answer-most (Ok (Miss n)) l = simp length-append (omega (arith, place-most, number-most (ascii " looked=") n l))
+  answer-most (Err reason) l = simp length-append (omega (arith, place-most, number-most (ascii " refused=") (number_of reason) l))

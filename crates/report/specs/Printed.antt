@@ -1,7 +1,9 @@
 -- The lines that the program `beltbeam` prints, as bytes. Definitions only.
-use Rattle.std.specs.Prelude.{ℕ, List, ◌++◌, Float}
+use Rattle.std.specs.Prelude.{ℕ, List, ◌++◌, Float, Result, Ok, Err}
 use Rattle.intersect.specs.declared.Intersection.{Intersection}
-use Rattle.intersect.specs.declared.Intersection.TheVariants.{Hit, Miss, Refused}
+use Rattle.intersect.specs.declared.Intersection.TheVariants.{Hit, Miss}
+use Rattle.limits.specs.Refused.{number_of}
+use Rattle.limits.specs.declared.refusal.Refusal.{Refusal}
 use Rattle.text.specs.Ascii.{ascii}
 use Rattle.text.specs.Digits.{decimal_text, float_text}
 
@@ -35,10 +37,10 @@ unfoldable pub refused_text : ℕ → ℕ → ℕ → List ℕ
 refused_text ray piece number = place_text ray piece ++ number_text (ascii " refused=") number ++ ascii "\n"
 
 -- the line of an answer
-abbrev pub answer_text : ℕ → ℕ → Intersection → List ℕ
-answer_text ray piece (Hit h looked) = hit_text ray piece looked h.t_hit h.u h.v
-answer_text ray piece (Miss looked) = miss_text ray piece looked
-answer_text ray piece (Refused number) = refused_text ray piece number
+abbrev pub answer_text : ℕ → ℕ → Result Intersection Refusal → List ℕ
+answer_text ray piece (Ok (Hit h looked)) = hit_text ray piece looked h.t_hit h.u h.v
+answer_text ray piece (Ok (Miss looked)) = miss_text ray piece looked
+answer_text ray piece (Err reason) = refused_text ray piece (number_of reason)
 
 -- a refused sheet
 unfoldable pub refused_sheet_text : ℕ → ℕ → List ℕ

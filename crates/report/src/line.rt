@@ -1,105 +1,104 @@
-// The lines of the report, put into a buffer that is lent. Each function answers the place behind what it
-// put.
+// The lines of the report, put into a buffer that is lent.
 ghost use Rattle.report.specs.Printed.{number_text, bits_text, pieces_text, place_text, found_text, hit_text, miss_text, refused_text, answer_text, refused_sheet_text};
-ghost use Rattle.text.specs.Put.{Put};
+ghost use Rattle.limits.specs.Refused.{number_of};
+ghost use Rattle.text.specs.Put.{Puts};
 
+use interaction::SurfaceInteraction;
 use intersect::Intersection;
-use text::{put_decimal, put_float, put_word};
+use limits::Refusal;
+use text::Buffer;
 
-// No line has more bytes (`longest`).
+/// No line has more bytes (`longest`).
 pub const LONGEST: usize = 90;
 
-// A key and a number.
-fn put_number(out: &mut [u8], at: usize, key: &[u8], n: u32) -> usize
-    ensures { Put out.old at (number_text key.now n) out.new result }
-{
-    let a = put_word(out, at, key);
-    put_decimal(out, a, n)
+/// Which ray meets which curve.
+#[derive(Clone, Copy, Debug, PartialEq, Eq)]
+pub struct Place {
+    pub ray: u32,
+    pub piece: u32,
 }
 
-// A key and a float's bits.
-fn put_bits(out: &mut [u8], at: usize, key: &[u8], x: f32) -> usize
-    ensures { Put out.old at (bits_text key.now x) out.new result }
+fn put_number(out: &mut Buffer<'_>, key: &[u8], n: u32)
+    ensures { Puts out.old out.new (number_text key.now n) }
 {
-    let a = put_word(out, at, key);
-    put_float(out, a, x)
+    out.put_word(key);
+    out.put_decimal(n);
 }
 
-pub fn put_pieces(out: &mut [u8], at: usize, n: u32) -> usize
-    ensures { Put out.old at (pieces_text n) out.new result }
+// A float by its bits.
+fn put_bits(out: &mut Buffer<'_>, key: &[u8], x: f32)
+    ensures { Puts out.old out.new (bits_text key.now x) }
 {
-    let a = put_number(out, at, b"pieces=", n);
-    put_word(out, a, b"\n")
+    out.put_word(key);
+    out.put_float(x);
 }
 
-// Which ray and which curve.
-fn put_place(out: &mut [u8], at: usize, ray: u32, piece: u32) -> usize
-    ensures { Put out.old at (place_text ray piece) out.new result }
+pub fn put_pieces(out: &mut Buffer<'_>, n: u32)
+    ensures { Puts out.old out.new (pieces_text n) }
 {
-    let a = put_number(out, at, b"beam=", ray);
-    put_number(out, a, b" piece=", piece)
+    put_number(out, b"pieces=", n);
+    out.put_word(b"\n");
+}
+
+fn put_place(out: &mut Buffer<'_>, place: Place)
+    ensures { Puts out.old out.new (place_text place.ray place.piece) }
+{
+    put_number(out, b"beam=", place.ray);
+    put_number(out, b" piece=", place.piece);
 }
 
 // Distance, u and v.
-fn put_found(out: &mut [u8], at: usize, t: f32, u: f32, v: f32) -> usize
-    ensures { Put out.old at (found_text t u v) out.new result }
+fn put_found(out: &mut Buffer<'_>, hit: &SurfaceInteraction)
+    ensures { Puts out.old out.new (found_text hit.now.t_hit hit.now.u hit.now.v) }
 {
-    let a = put_bits(out, at, b" t=", t);
-    let b = put_bits(out, a, b" u=", u);
-    put_bits(out, b, b" v=", v)
+    put_bits(out, b" t=", hit.t_hit);
+    put_bits(out, b" u=", hit.u);
+    put_bits(out, b" v=", hit.v);
 }
 
-fn put_hit(
-    out: &mut [u8],
-    at: usize,
-    ray: u32,
-    piece: u32,
-    looked: u32,
-    t: f32,
-    u: f32,
-    v: f32,
-) -> usize
-    ensures { Put out.old at (hit_text ray piece looked t u v) out.new result }
+fn put_hit(out: &mut Buffer<'_>, place: Place, looked: u32, hit: &SurfaceInteraction)
+    ensures { Puts out.old out.new
+        (hit_text place.ray place.piece looked hit.now.t_hit hit.now.u hit.now.v) }
 {
-    let a = put_place(out, at, ray, piece);
-    let b = put_number(out, a, b" looked=", looked);
-    let c = put_word(out, b, b" hit=1");
-    let d = put_found(out, c, t, u, v);
-    put_word(out, d, b"\n")
+    put_place(out, place);
+    put_number(out, b" looked=", looked);
+    out.put_word(b" hit=1");
+    put_found(out, hit);
+    out.put_word(b"\n");
 }
 
-fn put_miss(out: &mut [u8], at: usize, ray: u32, piece: u32, looked: u32) -> usize
-    ensures { Put out.old at (miss_text ray piece looked) out.new result }
+fn put_miss(out: &mut Buffer<'_>, place: Place, looked: u32)
+    ensures { Puts out.old out.new (miss_text place.ray place.piece looked) }
 {
-    let a = put_place(out, at, ray, piece);
-    let b = put_number(out, a, b" looked=", looked);
-    put_word(out, b, b" hit=0\n")
+    put_place(out, place);
+    put_number(out, b" looked=", looked);
+    out.put_word(b" hit=0\n");
 }
 
-fn put_refused(out: &mut [u8], at: usize, ray: u32, piece: u32, number: u8) -> usize
-    ensures { Put out.old at (refused_text ray piece number) out.new result }
+fn put_refused(out: &mut Buffer<'_>, place: Place, refusal: Refusal)
+    ensures { Puts out.old out.new (refused_text place.ray place.piece (number_of refusal)) }
 {
-    let a = put_place(out, at, ray, piece);
-    let b = put_number(out, a, b" refused=", number as u32);
-    put_word(out, b, b"\n")
+    put_place(out, place);
+    put_number(out, b" refused=", refusal.number());
+    out.put_word(b"\n");
 }
 
-// The line of an answer.
-pub fn put_answer(out: &mut [u8], at: usize, ray: u32, piece: u32, met: Intersection) -> usize
-    ensures { Put out.old at (answer_text ray piece met) out.new result }
+/// The line of an answer.
+pub fn put_answer(out: &mut Buffer<'_>, place: Place, met: Result<Intersection, Refusal>)
+    ensures { Puts out.old out.new (answer_text place.ray place.piece met) }
 {
     match met {
-        Intersection::Hit(h, looked) => { put_hit(out, at, ray, piece, looked, h.t_hit, h.u, h.v) }
-        Intersection::Miss(looked) => put_miss(out, at, ray, piece, looked),
-        Intersection::Refused(number) => put_refused(out, at, ray, piece, number),
+        Ok(Intersection::Hit(hit, looked)) => put_hit(out, place, looked, &hit),
+        Ok(Intersection::Miss(looked)) => put_miss(out, place, looked),
+        Err(refusal) => put_refused(out, place, refusal),
     }
 }
 
-// A refused sheet.
-pub fn put_refused_sheet(out: &mut [u8], at: usize, number: u8, line: u32) -> usize
-    ensures { Put out.old at (refused_sheet_text number line) out.new result }
+/// A refused sheet, and its wrong line.
+pub fn put_refused_sheet(out: &mut Buffer<'_>, refusal: Refusal, line: u32)
+    ensures { Puts out.old out.new (refused_sheet_text (number_of refusal) line) }
 {
-    let a = put_number(out, at, b"refused=", number as u32);
-    let b = put_number(out, a, b" line=", line);
-    put_word(out, b, b"\n")
+    put_number(out, b"refused=", refusal.number());
+    put_number(out, b" line=", line);
+    out.put_word(b"\n");
 }

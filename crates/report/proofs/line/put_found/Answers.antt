@@ -1,10 +1,9 @@
--- `report::line::put_found` meets its contract: its parts are put one behind the other. Assumes nothing.
+-- Its parts are put one behind the other.
 use Rattle.text.specs.Ascii.{ascii}
-use Rattle.text.proofs.Puts.{then}
+use Rattle.text.proofs.Puts.{then_puts}
 use Rattle.report.specs.Printed.{found_text}
 use Rattle.report.proofs.line.put_found.Goals as goal
 
 pub returns : goal.returns
 unfolding found_text ascii
-returns c =
-    then (then c.put_bits-a.ensures c.put_bits-b.ensures) c.put_bits.ensures
+returns c = then_puts (then_puts c.put_bits.ensures c.put_bits-2.ensures) c.put_bits-3.ensures

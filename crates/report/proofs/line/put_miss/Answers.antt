@@ -1,10 +1,9 @@
--- `report::line::put_miss` meets its contract: its parts are put one behind the other. Assumes nothing.
+-- Its parts are put one behind the other.
 use Rattle.text.specs.Ascii.{ascii}
-use Rattle.text.proofs.Puts.{then}
+use Rattle.text.proofs.Puts.{then_puts}
 use Rattle.report.specs.Printed.{miss_text}
 use Rattle.report.proofs.line.put_miss.Goals as goal
 
 pub returns : goal.returns
 unfolding miss_text ascii
-returns c =
-    then (then c.put_place-a.ensures c.put_number-b.ensures) c.put_word.ensures
+returns c = then_puts (then_puts c.put_place.ensures c.put_number.ensures) c.put_word.ensures

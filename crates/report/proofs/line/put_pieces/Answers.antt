@@ -1,10 +1,9 @@
--- `report::line::put_pieces` meets its contract: its parts are put one behind the other. Assumes nothing.
+-- Its parts are put one behind the other.
 use Rattle.text.specs.Ascii.{ascii}
-use Rattle.text.proofs.Puts.{then}
+use Rattle.text.proofs.Puts.{then_puts}
 use Rattle.report.specs.Printed.{pieces_text}
 use Rattle.report.proofs.line.put_pieces.Goals as goal
 
 pub returns : goal.returns
 unfolding pieces_text ascii
-returns c =
-    then c.put_number-a.ensures c.put_word.ensures
+returns c = then_puts c.put_number.ensures c.put_word.ensures
