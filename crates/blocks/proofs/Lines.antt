@@ -10,8 +10,10 @@ use lib.Dec.{eqb, lit≤}
 use lib.Ieee.{Float}
 use lib.ListN.{length}
 use Rattle.limits.specs.List.{up_to}
-use Rattle.sheet.specs.declared.Reply.{Reply}
-use Rattle.sheet.specs.declared.Reply.TheVariants.{Accepted, Refused}
+use Rattle.std.specs.Prelude.{Result, Ok, Err}
+use Rattle.limits.specs.Refused.{number_of}
+use Rattle.sheet.specs.declared.Sheet.{Sheet}
+use Rattle.sheet.specs.declared.SheetRefusal.{SheetRefusal}
 use Rattle.report.specs.Printed.{pieces_text, longest}
 use Rattle.blocks.specs.Report.{met_at, met_text, reply_text}
 use Rattle.blocks.specs.Blocks.{Small, line_count, line_text, lines_text}
@@ -47,41 +49,41 @@ pub placed : (k n pieces : ℕ) → (k ≡ 0 → ⊥) → k < 1 + n * pieces →
 placed k n zero h l = absurd (h (omega (arith, mul-zero n)))
 placed k n (suc m) h l = let p : 0 < suc m = omega arith in (p, (div-lt_iff_lt-mul p).1 (omega arith), mod-lt (k - 1) p)
 
-pub lines_few : (reply : Reply) → Small reply → line_count reply ≤ 65537
-lines_few (Accepted pieces reverse n) s = omega (arith, mul-le-mul s.1 s.0)
-lines_few (Refused number line) s = lit≤ tt
+pub lines_few : (sheet : Result Sheet SheetRefusal) → Small sheet → line_count sheet ≤ 65537
+lines_few (Ok sheet) s = omega (arith, mul-le-mul s.1 s.0)
+lines_few (Err e) s = lit≤ tt
 
-module _ (rays list : List Float) where
+module _ (list : List Float) where
   -- ---- no line has over 90 bytes
 
-  pub line_most : (reply : Reply) (k : ℕ) → Small reply → k < line_count reply → length (line_text rays list reply k) ≤ longest
-  line_most (Accepted pieces reverse n) k s l = go (eqb k 0) (eqb-false k 0)
+  pub line_most : (sheet : Result Sheet SheetRefusal) (k : ℕ) → Small sheet → k < line_count sheet → length (line_text list sheet k) ≤ longest
+  line_most (Ok sheet) k s l = go (eqb k 0) (eqb-false k 0)
     where
-      go : (b : Bool) → (b ≡ false → k ≡ 0 → ⊥) → length (cond b (pieces_text pieces) (met_text rays list reverse ((k - 1) / pieces) ((k - 1) % pieces))) ≤ longest
-      go true e = pieces_most pieces (omega arith)
-      go false e = let at = placed k n pieces (e refl) l in answer-most _ _ (omega arith) (omega arith) (met_at rays list reverse _ _) (unfold met_at in narrow _ _ _ reverse _)
-  line_most (Refused number line) k s l = refused_sheet_most number line (omega arith) (omega arith)
+      go : (b : Bool) → (b ≡ false → k ≡ 0 → ⊥) → length (cond b (pieces_text sheet.pieces) (met_text sheet.rays list sheet.reverse ((k - 1) / sheet.pieces) ((k - 1) % sheet.pieces))) ≤ longest
+      go true e = pieces_most sheet.pieces (omega arith)
+      go false e = let at = placed k sheet.ray_count sheet.pieces (e refl) l in answer-most _ _ (omega arith) (omega arith) (met_at sheet.rays list sheet.reverse _ _) (unfold met_at in narrow _ _ _ sheet.reverse _)
+  line_most (Err e) k s l = refused_sheet_most (number_of e.refusal) e.line (omega arith) (omega arith)
 
   -- ---- one behind the other
 
-  module _ (reply : Reply) where
-    pub no_lines : (k : ℕ) → lines_text rays list reply k k ≡ []
+  module _ (sheet : Result Sheet SheetRefusal) where
+    pub no_lines : (k : ℕ) → lines_text list sheet k k ≡ []
     unfolding lines_text up_to
-    no_lines k = ap (up_to (λ i. line_text rays list reply (k + i))) (sub_self k)
+    no_lines k = ap (up_to (λ i. line_text list sheet (k + i))) (sub_self k)
 
-    pub lines_next : (from k : ℕ) → from ≤ k → lines_text rays list reply from k ++ line_text rays list reply k ≡ lines_text rays list reply from (k + 1)
+    pub lines_next : (from k : ℕ) → from ≤ k → lines_text list sheet from k ++ line_text list sheet k ≡ lines_text list sheet from (k + 1)
     unfolding lines_text up_to
     lines_next from k l =
         let one_more : k + 1 - from ≡ suc (k - from) = omega arith in
         let here : from + (k - from) ≡ k = omega arith in
-        sym (ap (up_to (λ i. line_text rays list reply (from + i))) one_more ∙ ap (λ (x : ℕ). up_to (λ i. line_text rays list reply (from + i)) (k - from) ++ line_text rays list reply x) here)
+        sym (ap (up_to (λ i. line_text list sheet (from + i))) one_more ∙ ap (λ (x : ℕ). up_to (λ i. line_text list sheet (from + i)) (k - from) ++ line_text list sheet x) here)
 
-    pub lines_append : (a b c : ℕ) → a ≤ b → b ≤ c → lines_text rays list reply a b ++ lines_text rays list reply b c ≡ lines_text rays list reply a c
+    pub lines_append : (a b c : ℕ) → a ≤ b → b ≤ c → lines_text list sheet a b ++ lines_text list sheet b c ≡ lines_text list sheet a c
     unfolding lines_text
     lines_append a b c l h =
-        let f : ℕ → List ℕ = λ i. line_text rays list reply (a + i) in
+        let f : ℕ → List ℕ = λ i. line_text list sheet (a + i) in
         let parts : c - a ≡ (b - a) + (c - b) = omega arith in
-        sym (ap (up_to f) parts ∙ up_to-append f (b - a) (c - b) ∙ ap (λ (t : List ℕ). up_to f (b - a) ++ t) (up_to_same _ _ (c - b) (λ i _. ap (line_text rays list reply) (shift a b i l))))
+        sym (ap (up_to f) parts ∙ up_to-append f (b - a) (c - b) ∙ ap (λ (t : List ℕ). up_to f (b - a) ++ t) (up_to_same _ _ (c - b) (λ i _. ap (line_text list sheet) (shift a b i l))))
       where
         shift : (a b i : ℕ) → a ≤ b → a + ((b - a) + i) ≡ b + i
         shift a b i l = omega arith
@@ -89,19 +91,19 @@ module _ (rays list : List Float) where
   -- ---- all of them are the report
 
   -- the line behind k others
-  behind : (pieces n k i : ℕ) (reverse : Bool) → i ≡ suc k → line_text rays list (Accepted pieces reverse n) i ≡ met_text rays list reverse (k / pieces) (k % pieces)
-  behind pieces n k i reverse e = go (eqb i 0) (eqb-true i 0)
+  behind : (sheet : Sheet) (k i : ℕ) → i ≡ suc k → line_text list (Ok sheet) i ≡ met_text sheet.rays list sheet.reverse (k / sheet.pieces) (k % sheet.pieces)
+  behind sheet k i e = go (eqb i 0) (eqb-true i 0)
     where
-      go : (b : Bool) → (b ≡ true → i ≡ 0) → cond b (pieces_text pieces) (met_text rays list reverse ((i - 1) / pieces) ((i - 1) % pieces)) ≡ met_text rays list reverse (k / pieces) (k % pieces)
+      go : (b : Bool) → (b ≡ true → i ≡ 0) → cond b (pieces_text sheet.pieces) (met_text sheet.rays list sheet.reverse ((i - 1) / sheet.pieces) ((i - 1) % sheet.pieces)) ≡ met_text sheet.rays list sheet.reverse (k / sheet.pieces) (k % sheet.pieces)
       go true h = absurd (let z = h refl in omega arith)
       go false h = let less : i - 1 ≡ k = omega arith in rw less
 
-  pub all_lines : (reply : Reply) → lines_text rays list reply 0 (line_count reply) ≡ reply_text rays list reply
+  pub all_lines : (sheet : Result Sheet SheetRefusal) → lines_text list sheet 0 (line_count sheet) ≡ reply_text list sheet
   unfolding lines_text up_to
-  all_lines (Accepted pieces reverse n) =
-      let g : ℕ → List ℕ = λ i. line_text rays list (Accepted pieces reverse n) (0 + i) in
-      ap (up_to g) (sub-zero (1 + n * pieces))
-      ∙ up_to-append g 1 (n * pieces)
-      ∙ ap (λ (t : List ℕ). pieces_text pieces ++ t)
-      (up_to_same _ _ (n * pieces) (λ k _. behind pieces n k (0 + (1 + k)) reverse (omega arith)) ∙ up_to-rows (met_text rays list reverse) pieces n)
-  all_lines (Refused number line) = refl
+  all_lines (Ok sheet) =
+      let g : ℕ → List ℕ = λ i. line_text list (Ok sheet) (0 + i) in
+      ap (up_to g) (sub-zero (1 + sheet.ray_count * sheet.pieces))
+      ∙ up_to-append g 1 (sheet.ray_count * sheet.pieces)
+      ∙ ap (λ (t : List ℕ). pieces_text sheet.pieces ++ t)
+      (up_to_same _ _ (sheet.ray_count * sheet.pieces) (λ k _. behind sheet k (0 + (1 + k)) (omega arith)) ∙ up_to-rows (met_text sheet.rays list sheet.reverse) sheet.pieces sheet.ray_count)
+  all_lines (Err e) = refl

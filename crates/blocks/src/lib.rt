@@ -3,68 +3,42 @@
 #![tactic(auto)]
 
 ghost use Rattle.std.specs.Prelude.{◌≡◌, ◌≤◌, ◌<◌, eqb, length};
-ghost use Rattle.text.specs.Put.{Put};
+ghost use Rattle.text.specs.Put.{Puts};
 ghost use Rattle.create.specs.Create.{most_curves};
 ghost use Rattle.sheet.specs.Sheet.{most_rays};
 ghost use Rattle.report.specs.Printed.{longest};
 ghost use Rattle.blocks.specs.Report.{met_text, report_in};
-ghost use Rattle.blocks.specs.Blocks.{Small, line_count, line_text, LinesPut, Sound, lines_left, rest_of, IsBlock};
+ghost use Rattle.blocks.specs.Blocks.{Small, line_count, line_text, Sound, lines_left, rest_of, IsBlock};
 
 use create::MOST_CURVES;
 use curve::FLOATS;
 use geometry::{RAY_FLOATS, ray_from};
 use matrix::Matrix4x4;
-use report::{LONGEST, put_answer, put_pieces, put_refused_sheet};
-use sheet::{RAYS_FLOATS, Reply};
+use report::{LONGEST, Place, put_answer, put_pieces, put_refused_sheet};
+use sheet::{Sheet, SheetRefusal};
+use text::Buffer;
 
-// The floats of the most curves.
+/// The floats of the most curves.
 pub const ROOM: usize = MOST_CURVES * FLOATS;
 
-// What is left of a sheet's report: what was read of the sheet, but for its curves, and the line that is next.
+/// What is left of a sheet's report: what was read of the sheet, but for its curves, and the line that is next.
 #[derive(Clone, Copy)]
 pub struct Rest {
-    pub reply: Reply,
-    pub rays: [f32; RAYS_FLOATS],
+    pub sheet: Result<Sheet, SheetRefusal>,
     pub next: usize,
 }
 
-// The place behind a block's bytes, and what is left behind it.
+/// The place behind a block's bytes, and what is left behind it.
 #[derive(Clone, Copy)]
 pub struct Block {
     pub end: usize,
     pub rest: Rest,
 }
 
-// The place behind the bytes of lines that were put, and the line behind them.
-#[derive(Clone, Copy)]
-struct Behind {
-    end: usize,
-    next: usize,
-}
-
-// How many lines the report of a reply has.
-fn line_count(reply: Reply) -> usize
-    requires { Small reply }
-    ensures { result ≡ line_count reply }
-{
-    match reply {
-        Reply::Accepted(pieces, _, n) => 1 + n * pieces as usize,
-        Reply::Refused(_, _) => 1,
-    }
-}
-
-// A ray against a curve of the list.
-fn put_met(
-    out: &mut [u8],
-    at: usize,
-    rays: &[f32; RAYS_FLOATS],
-    list: &[f32; ROOM],
-    reverse: bool,
-    ray: usize,
-    piece: usize,
-) -> usize
+// A ray of the sheet against a curve of the list.
+fn put_met(out: &mut Buffer<'_>, list: &[f32; ROOM], sheet: &Sheet, ray: usize, piece: usize)
     requires { (ray < most_rays) × (piece < most_curves) }
-    ensures { Put out.old at (met_text rays.now list.now reverse ray piece) out.new result }
+    ensures { Puts out.old out.new (met_text sheet.now.rays list.now sheet.now.reverse ray piece) }
 {
     let identity = Matrix4x4::default();
     let curves = &list[..];
@@ -73,94 +47,97 @@ fn put_met(
         &curves[from..from + FLOATS],
         identity,
         identity,
-        reverse,
-        ray_from(rays, ray * RAY_FLOATS),
+        sheet.reverse,
+        ray_from(&sheet.rays, ray * RAY_FLOATS),
     );
-    put_answer(out, at, ray as u32, piece as u32, met)
+    let place = Place {
+        ray: ray as u32,
+        piece: piece as u32,
+    };
+    put_answer(out, place, met);
 }
 
-// The line k.
-fn put_line(
-    out: &mut [u8],
-    at: usize,
-    rays: &[f32; RAYS_FLOATS],
-    list: &[f32; ROOM],
-    reply: Reply,
-    k: usize,
-) -> usize
-    requires { Small reply × (k < line_count reply) }
-    ensures { Put out.old at (line_text rays.now list.now reply k) out.new result }
-{
-    match reply {
-        Reply::Accepted(pieces, reverse, _) => {
-            if k == 0 {
-                put_pieces(out, at, pieces)
-            } else {
-                let per = pieces as usize;
-                put_met(out, at, rays, list, reverse, (k - 1) / per, (k - 1) % per)
-            }
+impl Rest {
+    // How many lines the report has.
+    fn line_count(&self) -> usize
+        requires { Small self.now.sheet }
+        ensures value { result ≡ line_count self.now.sheet }
+        ensures few { result ≤ 65537 }
+    {
+        match &self.sheet {
+            Ok(sheet) => 1 + sheet.ray_count * sheet.pieces as usize,
+            Err(_) => 1,
         }
-        Reply::Refused(number, line) => put_refused_sheet(out, at, number, line as u32),
+    }
+
+    // The line that is next.
+    fn put_line(&self, out: &mut Buffer<'_>, list: &[f32; ROOM])
+        requires { Small self.now.sheet × (self.now.next < line_count self.now.sheet) }
+        ensures { Puts out.old out.new
+            (line_text list.now self.now.sheet self.now.next) }
+    {
+        match &self.sheet {
+            Ok(sheet) => {
+                if self.next == 0 {
+                    put_pieces(out, sheet.pieces);
+                } else {
+                    let per = sheet.pieces as usize;
+                    let k = self.next - 1;
+                    put_met(out, list, sheet, k / per, k % per);
+                }
+            }
+            Err(refused) => put_refused_sheet(out, refused.refusal, refused.line as u32),
+        }
+    }
+
+    /// Whether nothing is left.
+    #[tactic(auto, unfolding(crate::specs::Blocks::lines_left))]
+    pub fn is_done(&self) -> bool
+        requires { Sound self.now }
+        ensures { result ≡ eqb (lines_left self.now) 0 }
+    {
+        self.line_count() - self.next == 0
+    }
+
+    // The next lines, as long as there is room for the longest, and what is left behind them.
+    fn put_lines(&self, buffer: &mut Buffer<'_>, list: &[f32; ROOM]) -> Rest
+        requires { Sound self.now × (buffer.old.end ≡ 0) }
+        ensures same_buffer { buffer.new.bytes.ghost_name ≡ buffer.old.bytes.ghost_name }
+        ensures block { IsBlock list.now self.now buffer.old.bytes.now buffer.new.bytes.now
+            (record { end = buffer.new.end; rest = result }) }
+        ensures rest_bound { 0 < lines_left self.now → longest ≤ length buffer.old.bytes.now
+            → lines_left result < lines_left self.now }
+    {
+        let count = self.line_count();
+        let mut rest = *self;
+        while (rest.next < count) & (LONGEST <= buffer.room()) {
+            rest.put_line(buffer, list);
+            rest.next += 1;
+        }
+        rest
+    }
+
+    /// Puts the next lines into the buffer: one at least, where there is room for the longest.
+    pub fn put_block(&self, out: &mut [u8], list: &[f32; ROOM]) -> Block
+        requires { Sound self.now }
+        ensures block { IsBlock list.now self.now out.old out.new result }
+        ensures rest_bound { 0 < lines_left self.now → longest ≤ length out.old
+            → lines_left result.rest < lines_left self.now }
+    {
+        let mut buffer = Buffer::new(out);
+        let rest = self.put_lines(&mut buffer, list);
+        Block {
+            end: buffer.end,
+            rest,
+        }
     }
 }
 
-// The lines from one on, as long as there is room for the longest.
-fn put_lines(
-    out: &mut [u8],
-    rays: &[f32; RAYS_FLOATS],
-    list: &[f32; ROOM],
-    reply: Reply,
-    from: usize,
-) -> Behind
-    requires { Small reply × (from ≤ line_count reply) }
-    ensures lines_put { LinesPut rays.now list.now reply from out.old out.new result }
-    ensures from_lt_next { from < line_count reply → longest ≤ length out.old → from < result.next }
-{
-    let count = line_count(reply);
-    let mut end = 0usize;
-    let mut next = from;
-    while (next < count) & (LONGEST <= out.len() - end) {
-        end = put_line(out, end, rays, list, reply, next);
-        next += 1;
-    }
-    Behind { end, next }
-}
-
-// Reads a sheet, its curves into the list, and stands before the first line of its report.
+/// Reads a sheet, its curves into the list, and stands before the first line of its report.
 pub fn open(bytes: &[u8], list: &mut [f32; ROOM]) -> Rest
     ensures sound { Sound result }
     ensures result_after { rest_of list.new result ≡ report_in bytes.now list.old }
 {
-    let read = sheet::read_sheet(bytes, list);
-    let reply = read.reply;
-    let rays = read.rays;
-    Rest {
-        reply,
-        rays,
-        next: 0,
-    }
-}
-
-// Whether nothing is left.
-pub fn is_done(left: Rest) -> bool
-    requires { Sound left }
-    ensures { result ≡ eqb (lines_left left) 0 }
-{
-    let reply = left.reply;
-    line_count(reply) - left.next == 0
-}
-
-// Puts the next lines into the buffer: one at least, where there is room for the longest.
-pub fn put_block(out: &mut [u8], list: &[f32; ROOM], left: Rest) -> Block
-    requires { Sound left }
-    ensures block { IsBlock list.now left out.old out.new result }
-    ensures rest_bound { 0 < lines_left left → longest ≤ length out.old → lines_left result.rest < lines_left left }
-{
-    let reply = left.reply;
-    let rays = left.rays;
-    let from = left.next;
-    let put = put_lines(out, &rays, list, reply, from);
-    let next = put.next;
-    let rest = Rest { reply, rays, next };
-    Block { end: put.end, rest }
+    let sheet = sheet::read_sheet(bytes, list);
+    Rest { sheet, next: 0 }
 }

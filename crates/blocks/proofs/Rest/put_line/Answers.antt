@@ -1,0 +1,51 @@
+-- Each arm puts its line.
+use Rattle.std.proofs.Common.{◌≡◌, ℕ, ◌-◌, ◌/◌, ◌%◌, ◌<◌, List, Float, subst, arith}
+use Rattle.std.specs.Prelude.{Result, Ok, Err}
+use borrow.Author.Tests.{ne_eqb}
+use Rattle.limits.specs.Refused.{number_of}
+use Rattle.sheet.specs.declared.Sheet.{Sheet}
+use Rattle.sheet.specs.declared.SheetRefusal.{SheetRefusal}
+use Rattle.text.proofs.Puts.{puts_renamed}
+use Rattle.report.specs.Printed.{pieces_text, refused_sheet_text}
+use Rattle.blocks.specs.Report.{met_text}
+use Rattle.blocks.specs.Blocks.{Small, line_count, line_text}
+use Rattle.blocks.proofs.Lines.{placed}
+use Rattle.blocks.proofs.Rest.put_line.Goals as goal
+
+module _ (list : List Float) {read : Result Sheet SheetRefusal} where
+  first : {k : ℕ} {sheet : Sheet} → read ≡ Ok sheet → k ≡ 0 → pieces_text sheet.pieces ≡ line_text list read k
+  first e z = rw (e, z)
+
+  later : {k : ℕ} {sheet : Sheet} → read ≡ Ok sheet → (k ≡ 0 → ⊥) → met_text sheet.rays list sheet.reverse ((k - 1) / sheet.pieces) ((k - 1) % sheet.pieces) ≡ line_text list read k
+  later {k} e z = rw (e, ne_eqb k 0 z)
+
+  only : (k : ℕ) {refused : SheetRefusal} → read ≡ Err refused → refused_sheet_text (number_of refused.refusal) refused.line ≡ line_text list read k
+  only k e = rw e
+
+-- which ray and which curve
+at : {read : Result Sheet SheetRefusal} {next : ℕ} {sheet : Sheet} → read ≡ Ok sheet → (next ≡ 0 → ⊥) → next < line_count read → (0 < sheet.pieces) × ((next - 1) / sheet.pieces < sheet.ray_count) × ((next - 1) % sheet.pieces < sheet.pieces)
+at {read} {next} {sheet} e z h = placed next sheet.ray_count sheet.pieces z (subst (λ (r : Result Sheet SheetRefusal). next < line_count r) e h)
+
+pub nonzero_div-k : goal.nonzero_div-k
+nonzero_div-k c = (at c.in-Ok.is c.if-self-eq0.false c.requires.1).0
+
+pub nonzero_rem-k : goal.nonzero_rem-k
+nonzero_rem-k c = (at c.in-Ok.is c.if-self-eq0.false c.requires.1).0
+
+pub put_met-requires : goal.put_met-requires
+put_met-requires c =
+    let few = subst Small c.in-Ok.is c.requires.0 in
+    let here = at c.in-Ok.is c.if-self-eq0.false c.requires.1 in
+    (omega (arith, here.1, few.1), omega (arith, here.2, few.0))
+
+pub overflow_cast-refused : goal.overflow_cast-refused
+overflow_cast-refused c = let few = subst Small c.in-Err.is c.requires.0 in omega (arith, few.1)
+
+pub returns-then-self-eq0 : goal.returns-then-self-eq0
+returns-then-self-eq0 c = puts_renamed (first _ c.in-Ok.is c.if-self-eq0.true) c.put_pieces.ensures
+
+pub returns-else-self-eq0 : goal.returns-else-self-eq0
+returns-else-self-eq0 c = puts_renamed (later _ c.in-Ok.is c.if-self-eq0.false) c.put_met.ensures
+
+pub returns-in-Err : goal.returns-in-Err
+returns-in-Err c = puts_renamed (only _ _ c.in-Err.is) c.put_refused_sheet.ensures
