@@ -35,7 +35,7 @@ module _ (p : Printed) (left : Rest) where
 module _ (list : List Float) (first : Rest) where
   pub none_yet : Sound first → Handed list first first (record { bytes = 0; outcome = Ok tt })
   unfolding lines_left
-  none_yet s = record { sound = s; small = omega (arith, lines_few first.reply s.0); at_most = omega arith; behind = λ _. refl }
+  none_yet s = record { sound = s; small = omega (arith, lines_few first.sheet s.0); at_most = omega arith; behind = λ _. refl }
 
   -- one block more
   pub next : (left : Rest) (p q : Printed) (d x : List ℕ) (b : Block) → Handed list first left p → goes_on p left ≡ true → length d ≡ 65536 → length x ≡ length d
@@ -70,8 +70,8 @@ module _ (list : List Float) (first : Rest) where
   left_none : (left : Rest) → Sound left → lines_left left ≡ 0 → length (rest_of list left) ≡ 0
   unfolding lines_left rest_of
   left_none left s z =
-      let end : line_count left.reply ≡ left.next = omega (arith, s.1) in
-      ap length (ap (lines_text left.rays list left.reply left.next) end ∙ no_lines left.rays list left.reply left.next)
+      let end : line_count left.sheet ≡ left.next = omega (arith, s.1) in
+      ap length (ap (lines_text list left.sheet left.next) end ∙ no_lines list left.sheet left.next)
 
   pub written : (left : Rest) (p : Printed) → Handed list first left p → goes_on p left ≡ false → Writes (rest_of list first) p
   written left p h stop = record {

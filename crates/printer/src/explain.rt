@@ -1,6 +1,8 @@
 // Plain sentences on standard error: why a sheet is refused, and that a report is not whole.
 use crate::ending::wrong_ending_of;
 use crate::print::Printed;
+use limits::Refusal;
+use sheet::SheetRefusal;
 use std::io;
 use std::io::Write;
 use transfer::tell;
@@ -29,25 +31,24 @@ fn say_wrong_line<E: Write>(err: &mut E, line: usize, sheet: &[u8]) -> io::Resul
 }
 
 // Which limit a refused sheet breaks.
-fn limit_of(number: u8) -> &'static str {
-    match number {
-        1 => "the degree is not 2 or 3",
-        3 => "the points do not make whole segments",
-        4 => "only the type flat can be laid",
-        5 => "the split depth is over 10",
-        6 => "there are over 256 points or over 1,024 pieces",
-        7 => "a coordinate or a width is off limits",
-        18 => "the sheet has over 65,536 bytes",
-        22 => "two neighbouring points are equal",
+fn limit_of(refusal: Refusal) -> &'static str {
+    match refusal {
+        Refusal::Degree => "the degree is not 2 or 3",
+        Refusal::PointCount => "the points do not make whole segments",
+        Refusal::Type => "only the type flat can be laid",
+        Refusal::SplitDepth => "the split depth is over 10",
+        Refusal::TooMany => "there are over 256 points or over 1,024 pieces",
+        Refusal::PointsOrWidths => "a coordinate or a width is off limits",
+        Refusal::SheetTooLong => "the sheet has over 65,536 bytes",
+        Refusal::EqualNeighbours => "two neighbouring points are equal",
         _ => "the sheet is refused",
     }
 }
 
-pub fn explain<E: Write>(err: &mut E, number: u8, line: usize, sheet: &[u8]) {
-    let _ = if number == 17 {
-        say_wrong_line(err, line, sheet)
-    } else {
-        writeln!(err, "{}", limit_of(number))
+pub fn explain<E: Write>(err: &mut E, refused: SheetRefusal, sheet: &[u8]) {
+    let _ = match refused.refusal {
+        Refusal::WrongLine => say_wrong_line(err, refused.line, sheet),
+        refusal => writeln!(err, "{}", limit_of(refusal)),
     };
 }
 

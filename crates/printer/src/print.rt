@@ -6,8 +6,8 @@ ghost use Rattle.blocks.specs.Report.{report_of};
 ghost use Rattle.printer.specs.Printed.{goes_on, Follows, Writes};
 
 use crate::explain::{explain, tell_cut};
-use blocks::{ROOM, Rest, is_done, put_block};
-use sheet::Reply;
+use blocks::{ROOM, Rest};
+use sheet::{Sheet, SheetRefusal};
 use std::io::Write;
 use transfer::Stop;
 
@@ -23,7 +23,7 @@ fn goes_on(printed: Printed, left: Rest) -> bool
     requires { Sound left }
     ensures { result ≡ goes_on printed left }
 {
-    printed.outcome.is_ok() && !is_done(left)
+    printed.outcome.is_ok() && !left.is_done()
 }
 
 // The one place where the report is written.
@@ -52,7 +52,7 @@ fn write_report<W: Write>(out: &mut W, buf: &mut [u8], list: &[f32; ROOM], rest:
         outcome: Ok(()),
     };
     while goes_on(printed, left) {
-        let block = put_block(buf, list, left);
+        let block = left.put_block(buf, list);
         let end = block.end;
         printed = write_block(out, printed, &buf[..end]);
         left = block.rest;
@@ -61,10 +61,9 @@ fn write_report<W: Write>(out: &mut W, buf: &mut [u8], list: &[f32; ROOM], rest:
 }
 
 // A refused sheet has a sentence besides.
-fn explain_refusal<E: Write>(err: &mut E, reply: Reply, bytes: &[u8]) {
-    match reply {
-        Reply::Accepted(_, _, _) => {}
-        Reply::Refused(number, line) => explain(err, number, line, bytes),
+fn explain_refusal<E: Write>(err: &mut E, sheet: Result<Sheet, SheetRefusal>, bytes: &[u8]) {
+    if let Err(refused) = sheet {
+        explain(err, refused, bytes);
     }
 }
 
@@ -76,9 +75,9 @@ pub fn print_sheet<W: Write, E: Write>(out: &mut W, err: &mut E, bytes: &[u8]) -
     let mut list = [0.0f32; ROOM];
     let mut buf = [0u8; 65536];
     let rest = blocks::open(bytes, &mut list);
-    let reply = rest.reply;
+    let sheet = rest.sheet;
     let printed = write_report(out, &mut buf, &list, rest);
     tell_cut(err, printed);
-    explain_refusal(err, reply, bytes);
+    explain_refusal(err, sheet, bytes);
     printed
 }

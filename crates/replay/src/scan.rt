@@ -22,8 +22,7 @@ impl Scan {
 
     // Takes a byte, and answers whether it ends the line.
     pub fn take(&mut self, byte: u8) -> bool {
-        let d = digit(byte);
-        if d < 16 {
+        if let Some(d) = digit(byte) {
             self.word = self.word % 0x1000_0000 * 16 + d;
             return false;
         }
