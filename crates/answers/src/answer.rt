@@ -1,6 +1,8 @@
 // The words of an answer. What has no room is None.
-use geometry::{Bounds3f, Point3f, Ray, Vector3f};
+use geometry::{Bounds3f, Point3f, RAY_FLOATS, Ray, Vector3f};
+use limits::Refusal;
 use lines::Words;
+use matrix::{MATRIX_FLOATS, Matrix4x4};
 
 // Room for the words of any answer.
 const ANSWER_WORDS: usize = 96;
@@ -14,6 +16,23 @@ pub struct Answer {
 }
 
 impl Answer {
+    // An answer that may be refused: the status, and behind it what there is where it is done.
+    pub(crate) fn outcome<T: Drop, F: FnOnce(&mut Answer, T) -> Option<()>>(
+        &mut self,
+        answer: Result<T, Refusal>,
+        put: F,
+    ) -> Option<()>
+        requires { F.IsAlwaysCallable put }
+    {
+        match answer {
+            Ok(value) => {
+                self.word(DONE)?;
+                put(self, value)
+            }
+            Err(refusal) => self.word(refusal.number()),
+        }
+    }
+
     pub(crate) fn word(&mut self, word: u32) -> Option<()> {
         self.words.push(word)
     }
@@ -42,7 +61,11 @@ impl Answer {
         self.point(b.p_max)
     }
 
+    pub(crate) fn matrix(&mut self, m: Matrix4x4) -> Option<()> {
+        self.floats(&<[f32; MATRIX_FLOATS]>::from(m))
+    }
+
     pub(crate) fn ray(&mut self, r: Ray) -> Option<()> {
-        self.floats(&r.flatten())
+        self.floats(&<[f32; RAY_FLOATS]>::from(r))
     }
 }

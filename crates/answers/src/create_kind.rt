@@ -1,6 +1,6 @@
 // The library's answer to a line of create_curve_shape: the status, the number of curves and a hash of the whole list
 // afterwards.
-use crate::answer::{Answer, DONE};
+use crate::answer::Answer;
 use crate::inputs::Inputs;
 use crate::operation::Operation;
 use create::MOST_CURVES;
@@ -42,15 +42,11 @@ impl Operation for CreateCurveShape {
             split_depth,
             list,
         );
-        match created {
-            Ok(n) => {
-                let hash = lines::hash(list);
-                out.word(DONE)?;
-                out.word(n)?;
-                out.word((hash >> 32) as u32)?;
-                out.word((hash % 0x1_0000_0000) as u32)
-            }
-            Err(refusal) => out.word(refusal.number()),
-        }
+        let hash = lines::hash(list);
+        out.outcome(created, |out, curves| {
+            out.word(curves)?;
+            out.word((hash >> 32) as u32)?;
+            out.word((hash % 0x1_0000_0000) as u32)
+        })
     }
 }

@@ -1,9 +1,8 @@
 // The library's answers of curves, area, price and boxes, and of any four points, their corners.
-use crate::answer::{Answer, DONE};
+use crate::answer::Answer;
 use crate::inputs::Inputs;
 use crate::operation::Operation;
 use bezier::Cubic;
-use measure::{Bound, Measured, Priced};
 
 pub struct Corners;
 
@@ -30,13 +29,8 @@ impl Operation for Area {
     const FILE: &'static str = "area.txt";
 
     fn answer(inputs: &mut Inputs<'_>, out: &mut Answer) -> Option<()> {
-        match measure::area(&inputs.curve()?) {
-            Measured::Area(area) => {
-                out.word(DONE)?;
-                out.float(area)
-            }
-            Measured::Refused(number) => out.word(number as u32),
-        }
+        let curve = inputs.curve()?;
+        out.outcome(measure::area(&curve), |out, area| out.float(area))
     }
 }
 
@@ -47,23 +41,8 @@ impl Operation for Price {
 
     fn answer(inputs: &mut Inputs<'_>, out: &mut Answer) -> Option<()> {
         let curve = inputs.curve()?;
-        match measure::price(&curve, inputs.word()?) {
-            Priced::Cents(cents) => {
-                out.word(DONE)?;
-                out.word(cents)
-            }
-            Priced::Refused(number) => out.word(number as u32),
-        }
-    }
-}
-
-fn put_bound(out: &mut Answer, b: Bound) -> Option<()> {
-    match b {
-        Bound::Bounds(b) => {
-            out.word(DONE)?;
-            out.bounds(b)
-        }
-        Bound::Refused(number) => out.word(number as u32),
+        let cents = measure::price(&curve, inputs.word()?);
+        out.outcome(cents, |out, cents| out.word(cents))
     }
 }
 
@@ -75,7 +54,8 @@ impl Operation for ObjectBound {
     const IS_BOX: bool = true;
 
     fn answer(inputs: &mut Inputs<'_>, out: &mut Answer) -> Option<()> {
-        put_bound(out, measure::object_bound(&inputs.curve()?))
+        let curve = inputs.curve()?;
+        out.outcome(measure::object_bound(&curve), |out, b| out.bounds(b))
     }
 }
 
@@ -88,6 +68,7 @@ impl Operation for WorldBound {
 
     fn answer(inputs: &mut Inputs<'_>, out: &mut Answer) -> Option<()> {
         let curve = inputs.curve()?;
-        put_bound(out, measure::world_bound(&curve, inputs.matrix()?))
+        let bounds = measure::world_bound(&curve, inputs.matrix()?);
+        out.outcome(bounds, |out, b| out.bounds(b))
     }
 }

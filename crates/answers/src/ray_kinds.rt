@@ -3,11 +3,10 @@ use crate::answer::{Answer, DONE};
 use crate::inputs::Inputs;
 use crate::operation::Operation;
 use geometry::Ray;
-use interaction::{SurfaceInteraction, record_floats};
+use interaction::{RECORD_FLOATS, SurfaceInteraction};
 use intersect::Intersection;
 use lines::LINE_WORDS;
 use matrix::Matrix4x4;
-use nearest::NearestIntersection;
 
 // The status of a miss.
 const MISSED: u32 = 1;
@@ -34,7 +33,7 @@ fn read_cast(inputs: &mut Inputs<'_>) -> Option<Cast> {
 fn put_hit(out: &mut Answer, number: u32, record: SurfaceInteraction) -> Option<()> {
     out.word(DONE)?;
     out.word(number)?;
-    out.floats(&record_floats(record))
+    out.floats(&<[f32; RECORD_FLOATS]>::from(record))
 }
 
 pub struct Intersect;
@@ -53,12 +52,12 @@ impl Operation for Intersect {
             c.ray,
         );
         match met {
-            Intersection::Hit(record, looked) => put_hit(out, looked, record),
-            Intersection::Miss(looked) => {
+            Ok(Intersection::Hit(record, looked)) => put_hit(out, looked, record),
+            Ok(Intersection::Miss(looked)) => {
                 out.word(MISSED)?;
                 out.word(looked)
             }
-            Intersection::Refused(number) => out.word(number as u32),
+            Err(refusal) => out.word(refusal.number()),
         }
     }
 }
@@ -83,9 +82,9 @@ impl Operation for Nearest {
         );
         match met {
             // The remainder spares a proof that k fits: a list of as many curves has no room in a line.
-            NearestIntersection::Hit(record, k) => put_hit(out, (k % 0x1_0000_0000) as u32, record),
-            NearestIntersection::Miss => out.word(MISSED),
-            NearestIntersection::Refused(number) => out.word(number as u32),
+            Ok(Some((record, k))) => put_hit(out, (k % 0x1_0000_0000) as u32, record),
+            Ok(None) => out.word(MISSED),
+            Err(refusal) => out.word(refusal.number()),
         }
     }
 }

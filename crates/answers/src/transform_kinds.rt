@@ -2,7 +2,6 @@
 use crate::answer::Answer;
 use crate::inputs::Inputs;
 use crate::operation::Operation;
-use matrix::flatten;
 
 pub struct Inverse;
 
@@ -10,7 +9,7 @@ impl Operation for Inverse {
     const FILE: &'static str = "inverse.txt";
 
     fn answer(inputs: &mut Inputs<'_>, out: &mut Answer) -> Option<()> {
-        out.floats(&flatten(inputs.matrix()?.inverse()))
+        out.matrix(inputs.matrix()?.inverse())
     }
 }
 
@@ -79,8 +78,8 @@ impl Operation for LookAt {
         let pos = inputs.point()?;
         let look = inputs.point()?;
         if let Some(t) = transform::look_at(pos, look, inputs.vector()?) {
-            out.floats(&flatten(t.m))?;
-            out.floats(&flatten(t.m_inv))?;
+            out.matrix(t.m)?;
+            out.matrix(t.m_inv)?;
         }
         Some(())
     }
