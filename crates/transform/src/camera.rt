@@ -7,7 +7,7 @@ ghost use Rattle.transform.specs.LookAt.{identity_transform, camera_to_world, fr
 use geometry::{Point3f, Vector3f};
 use matrix::{Matrix4x4, Row};
 
-#[derive(Clone, Copy)]
+#[derive(Clone, Copy, Debug, PartialEq)]
 pub struct Transform {
     pub m: Matrix4x4,
     pub m_inv: Matrix4x4,
