@@ -1,14 +1,13 @@
 // The depth of refinement: how often a curve is cut in two.
 #![tactic(auto, unfolding(crate::specs::Depth::bend, crate::specs::Depth::bends_at, crate::specs::Depth::greatest_bend, crate::specs::Depth::exponent_of, crate::specs::Depth::log_of, crate::specs::Depth::depth_at))]
 
-ghost use Rattle.std.specs.Prelude.{◌≡◌, ◌≤◌, false, length, IsTrue};
+ghost use Rattle.std.specs.Prelude.{◌≡◌, false, IsTrue};
 ghost use Rattle.std.specs.Float.Ieee.{is_nan};
 ghost use Rattle.float.specs.Basic.{max_of};
-ghost use Rattle.curve.specs.Layout.{floats, curve_from};
 ghost use Rattle.overlap.specs.Depth.{bend, bends_at, greatest_bend, flatness, log_of, depth_at, depth_of};
 
 use bezier::{ANY, Cubic, NUMBERS, max};
-use curve::{WIDTH0, WIDTH1};
+use curve::CurveRef;
 use geometry::Point3f;
 
 // A second difference without its sign.
@@ -47,11 +46,11 @@ fn largest_second_difference(cp: Cubic) -> f32
     max::<NUMBERS>(first, largest_of(cp.p1, cp.p2, cp.p3))
 }
 
-fn flatness_ratio(curve: &[f32], cp: Cubic) -> f32
-    requires { floats ≤ length curve.now }
-    ensures { result ≡ flatness (curve_from curve.now) cp }
+#[tactic(auto, unfolding(crate::specs::Depth::flatness))]
+fn flatness_ratio(curve: &CurveRef<'_>, cp: Cubic) -> f32
+    ensures { result ≡ flatness curve.now cp }
 {
-    let eps = float::max(curve[WIDTH0], curve[WIDTH1]) * 0.05;
+    let eps = float::max(curve.width0(), curve.width1()) * 0.05;
     1.41421356237 * 6.0 * largest_second_difference(cp) / (8.0 * eps)
 }
 
@@ -74,10 +73,10 @@ fn depth_at(v: f32) -> u32
     (log2(v) / 2).min(10)
 }
 
-// The curve is one that passed refusal 9, and cp are its control points in the ray's frame.
-pub fn max_depth(curve: &[f32], cp: Cubic) -> u32
-    requires { floats ≤ length curve.now }
-    ensures { result ≡ depth_of (curve_from curve.now) cp }
+// The points cp are the curve's control points in the ray's frame.
+#[tactic(auto, unfolding(crate::specs::Depth::depth_of))]
+pub fn max_depth(curve: &CurveRef<'_>, cp: Cubic) -> u32
+    ensures { result ≡ depth_of curve.now cp }
 {
     depth_at(flatness_ratio(curve, cp))
 }

@@ -1,12 +1,11 @@
 // Parts of a curve in the ray's frame.
 #![tactic(auto, unfolding(crate::specs::Subcurve::middle_of))]
 
-ghost use Rattle.std.specs.Prelude.{◌≡◌, ◌≤◌, length};
-ghost use Rattle.curve.specs.Layout.{floats, curve_from};
+ghost use Rattle.std.specs.Prelude.{◌≡◌};
 ghost use Rattle.overlap.specs.Subcurve.{whole_of, middle_of};
 
 use bezier::Cubic;
-use curve::{UMAX, UMIN};
+use curve::CurveRef;
 
 // The control points in the ray's frame, and the parameters at the ends: a piece of the walk, and after the last cut a
 // sliver.
@@ -17,15 +16,15 @@ pub struct Subcurve {
     pub u1: f32,
 }
 
-// All of a curve, which passed refusal 9.
-pub fn whole(curve: &[f32], cp: Cubic) -> Subcurve
-    requires { floats ≤ length curve.now }
-    ensures { result ≡ whole_of (curve_from curve.now) cp }
+// All of a curve.
+#[tactic(auto, unfolding(crate::specs::Subcurve::whole_of))]
+pub fn whole(curve: &CurveRef<'_>, cp: Cubic) -> Subcurve
+    ensures { result ≡ whole_of curve.now cp }
 {
     Subcurve {
         cp,
-        u0: curve[UMIN],
-        u1: curve[UMAX],
+        u0: curve.umin(),
+        u1: curve.umax(),
     }
 }
 

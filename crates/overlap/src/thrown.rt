@@ -1,20 +1,19 @@
 // The tests that throw a subcurve out: no point of it, as wide as it is, can be on the ray.
 #![tactic(auto, unfolding(crate::specs::Thrown::is_off, crate::specs::Thrown::is_off_z_whole))]
 
-ghost use Rattle.std.specs.Prelude.{◌≡◌, ◌≤◌, length, if◌then◌else◌};
+ghost use Rattle.std.specs.Prelude.{◌≡◌, if◌then◌else◌};
 ghost use Rattle.bezier.specs.Points.{cubic_in};
-ghost use Rattle.curve.specs.Layout.{floats, curve_from};
 ghost use Rattle.overlap.specs.Thrown.{half_width, is_off, is_off_z_whole, is_thrown_by, is_whole_thrown_by};
 
 use bezier::{Axis, POINTS, axis_in, extent_of};
-use curve::width_at;
+use curve::CurveRef;
 
-// Half the larger of the widths at a subcurve's ends. The curve is one that passed refusal 9.
-pub fn half_width(curve: &[f32], u0: f32, u1: f32) -> f32
-    requires { floats ≤ length curve.now }
-    ensures { result ≡ half_width (curve_from curve.now) u0 u1 }
+// Half the larger of the widths at a subcurve's ends.
+#[tactic(auto, unfolding(crate::specs::Thrown::half_width))]
+pub fn half_width(curve: &CurveRef<'_>, u0: f32, u1: f32) -> f32
+    ensures { result ≡ half_width curve.now u0 u1 }
 {
-    0.5 * float::max(width_at(curve, u0), width_at(curve, u1))
+    0.5 * float::max(curve.width_at(u0), curve.width_at(u1))
 }
 
 // For a half's tests, and for the whole's: in z `intersect` has a plus where recursive_intersect has a minus.
@@ -38,10 +37,4 @@ pub fn is_thrown<const IS_WHOLE: bool>(w: f32, zmax: f32, p: &[f32; POINTS]) -> 
     is_off::<HALF>(axis_in(p, 1), w, 0.0)
         || is_off::<HALF>(axis_in(p, 0), w, 0.0)
         || is_off::<IS_WHOLE>(axis_in(p, 2), w, zmax)
-}
-
-pub fn is_whole_thrown(w: f32, zmax: f32, p: &[f32; POINTS]) -> bool
-    ensures { result ≡ is_whole_thrown_by w zmax (cubic_in p.now) }
-{
-    is_thrown::<WHOLE>(w, zmax, p)
 }
