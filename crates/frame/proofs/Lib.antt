@@ -1,2 +1,1 @@
 pub mod FramedRay
-pub mod ViewBack

@@ -1,12 +1,11 @@
 // The ray in the object's frame, and the curve in the ray's.
 #![tactic(auto, unfolding(crate::specs::Frame::ray_frame, crate::specs::Frame::projected_cubic, crate::specs::Frame::aim_of, crate::specs::Frame::aimed_of, crate::specs::Frame::view_of, crate::specs::Frame::in_ray_frame, crate::specs::Frame::framed_points, crate::specs::Frame::framed_along))]
 
-ghost use Rattle.std.specs.Prelude.{◌≡◌, ◌≤◌, length};
-ghost use Rattle.curve.specs.Layout.{floats, curve_from};
+ghost use Rattle.std.specs.Prelude.{◌≡◌};
 ghost use Rattle.frame.specs.Frame.{up_vector, ray_frame, projected_cubic, aim_of, aimed_of, view_of, framed_points, framed_along};
 
 use bezier::{Cubic, cubic_in};
-use curve::control_points;
+use curve::CurveRef;
 use geometry::{Ray, Vector3f, vec3_coordinate_system};
 use limits::Refusal;
 use matrix::Matrix4x4;
@@ -116,11 +115,9 @@ fn frame_points(cp: Cubic, a: Aim) -> Result<Framed, Refusal>
     })
 }
 
-// The curve is one that passed refusal 9. There is no frame where a length is zero, and a control point has none where its
-// weight is zero.
-pub fn frame_aimed(curve: &[f32], a: Aim) -> Result<Framed, Refusal>
-    requires { floats ≤ length curve.now }
-    ensures { result ≡ framed_along (curve_from curve.now) a }
+// There is no frame where a length is zero, and a control point has none where its weight is zero.
+pub fn frame_aimed(curve: &CurveRef<'_>, a: Aim) -> Result<Framed, Refusal>
+    ensures { result ≡ framed_along curve.now a }
 {
-    frame_points(cubic_in(&control_points(curve)), a)
+    frame_points(cubic_in(&curve.control_points()), a)
 }

@@ -1,2 +1,1 @@
-pub mod FoundBack
 pub mod NoFrame
