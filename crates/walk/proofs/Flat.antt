@@ -17,8 +17,6 @@ use Rattle.bisection.proofs.Walked.{Laws}
 use Rattle.bisection.proofs.Best.{Keeps, walk_best}
 use Rattle.curve.specs.declared.curve.Curve.{Curve}
 use Rattle.frame.specs.declared.frame.View.{View}
-use Rattle.frame.specs.Fixed.{view_from, view_floats}
-use Rattle.frame.proofs.ViewBack.{view_back}
 use Rattle.overlap.specs.declared.subcurve.Subcurve.{Subcurve}
 use Rattle.overlap.specs.Depth.{depth_of}
 use Rattle.overlap.specs.Subcurve.{low_half, high_half, subcurve_in}
@@ -31,15 +29,16 @@ use Rattle.leaf.specs.Leaf.{leaf_of}
 use Rattle.walk.specs.declared.rule.Rule.{Rule}
 use Rattle.walk.specs.Leaves.{subcurve_at, leaf_at}
 use Rattle.walk.specs.Rule.{counts, ends, beats}
-use Rattle.walk.specs.Steps.{Reached, entered, settled, is_over, walk_in, reached}
-use Rattle.walk.specs.Walk.{end_by, best_by, leaf_by, count_by, last_in}
+use Rattle.walk.specs.declared.walk.Reached.{Reached}
+use Rattle.walk.specs.Steps.{entered, settled, is_over, walk_in}
+use Rattle.walk.specs.Walk.{end_by, best_by, leaf_by, count_by, reached_by}
 use Rattle.walk.proofs.Rules.{ends-counts, end_takes, goes_on_lem, none_ends, skips, takes, chooses}
 
 -- what a leaf decides, with n subcurves counted
-abbrev reached_by : ℕ → Leaf → Reached
-reached_by n l = (l, n)
+abbrev pub with_count : ℕ → Leaf → Reached
+with_count n l = record { leaf = l; looked = n }
 
-reached-at : (f : ℕ → Leaf) (n : ℕ) (o : Option ℕ) → at_or (λ i. reached_by n (f i)) (reached_by n Fails) o ≡ reached_by n (at_or f Fails o)
+reached-at : (f : ℕ → Leaf) (n : ℕ) (o : Option ℕ) → at_or (λ i. with_count n (f i)) (with_count n Fails) o ≡ with_count n (at_or f Fails o)
 reached-at f n none = refl
 reached-at f n (some i) = refl
 
@@ -52,30 +51,30 @@ module _ (rule : Rule) (c : Curve) (v : View) where
   laws = record {
     live_on = λ r l. l;
     live_enter = λ r l. l;
-    live_step = λ s r l e. goes_on_lem rule (leaf_of c v s) r.0 e l;
-    over-step = λ s r l e. ap (ends rule) (end_takes rule (leaf_of c v s) r.0 e) ∙ e;
+    live_step = λ s r l e. goes_on_lem rule (leaf_of c v s) r.leaf e l;
+    over-step = λ s r l e. ap (ends rule) (end_takes rule (leaf_of c v s) r.leaf e) ∙ e;
     over_enter = λ r. refl;
     step_enter = λ s r. refl;
   }
 
-  keeps : Keeps (λ s. settled rule (leaf_of c v s)) entered (λ s. ends rule (leaf_of c v s)) (λ s. counts rule (leaf_of c v s)) (λ p q. beats rule (leaf_of c v p) (leaf_of c v q)) (λ n s. reached_by n (leaf_of c v s)) (λ n. reached_by n Fails) Live
+  keeps : Keeps (λ s. settled rule (leaf_of c v s)) entered (λ s. ends rule (leaf_of c v s)) (λ s. counts rule (leaf_of c v s)) (λ p q. beats rule (leaf_of c v p) (leaf_of c v q)) (λ n s. with_count n (leaf_of c v s)) (λ n. with_count n Fails) Live
   unfolding is_over entered settled
   keeps = record {
     live_miss = none_ends rule;
-    skips = λ s r e. ap (λ (x : Leaf). (x, r.1)) (skips rule (leaf_of c v s) r.0 e);
-    takes = λ s e. ap (reached_by 0) (takes rule (leaf_of c v s) e);
-    chooses = λ p q e _ h. ap (reached_by 0) (chooses rule (leaf_of c v p) (leaf_of c v q) e h) ∙ chosen p q (ends rule (leaf_of c v p) || beats rule (leaf_of c v p) (leaf_of c v q));
+    skips = λ s r e. ap (λ (x : Leaf). with_count r.looked x) (skips rule (leaf_of c v s) r.leaf e);
+    takes = λ s e. ap (with_count 0) (takes rule (leaf_of c v s) e);
+    chooses = λ p q e _ h. ap (with_count 0) (chooses rule (leaf_of c v p) (leaf_of c v q) e h) ∙ chosen p q (ends rule (leaf_of c v p) || beats rule (leaf_of c v p) (leaf_of c v q));
     stop_passes = λ s. ends-counts rule (leaf_of c v s);
     enter_miss = λ n. rw add-one;
     enter_reply = λ n s. rw add-one;
   }
     where
-      chosen : (p q : Subcurve) (b : Bool) → reached_by 0 (cond b (leaf_of c v p) (leaf_of c v q)) ≡ reached_by 0 (leaf_of c v (cond b p q))
+      chosen : (p q : Subcurve) (b : Bool) → with_count 0 (cond b (leaf_of c v p) (leaf_of c v q)) ≡ with_count 0 (leaf_of c v (cond b p q))
       chosen p q true = refl
       chosen p q false = refl
 
   module _ (s : Subcurve) (d : ℕ) where
-    walked : is_whole_thrown c v.zmax s ≡ false → walk_in rule c v d s (reached_by 0 Fails) ≡ (leaf_by rule c v s d, count_by rule c v s d)
+    walked : is_whole_thrown c v.zmax s ≡ false → walk_in rule c v d s (with_count 0 Fails) ≡ reached_by rule c v s d
     unfolding walk_in leaf_by count_by end_by best_by leaf_at subcurve_at
     walked e =
         let thrown = is_thrown c v.zmax in
@@ -83,7 +82,7 @@ module _ (rule : Rule) (c : Curve) (v : View) where
         let best = best_open low_half high_half thrown (λ s. counts rule (leaf_of c v s)) (λ p q. beats rule (leaf_of c v p) (leaf_of c v q)) true s d in
         rw e
         (walk_best low_half high_half thrown entered (λ s. settled rule (leaf_of c v s)) (is_over rule) (λ s. ends rule (leaf_of c v s)) (λ s. counts rule (leaf_of c v s))
-        (λ p q. beats rule (leaf_of c v p) (leaf_of c v q)) (λ n s. reached_by n (leaf_of c v s)) (λ n. reached_by n Fails) Live laws keeps s d
+        (λ p q. beats rule (leaf_of c v p) (leaf_of c v q)) (λ n s. with_count n (leaf_of c v s)) (λ n. with_count n Fails) Live laws keeps s d
         ∙ reached-at (λ i. leaf_of c v (node low_half high_half s d i)) (open_up_to low_half high_half thrown true s d stop) (or_else stop best))
 
     none_open : is_whole_thrown c v.zmax s ≡ true → Fails ≡ leaf_by rule c v s d
@@ -96,30 +95,25 @@ module _ (rule : Rule) (c : Curve) (v : View) where
 
 -- ---- the returns of `walk_whole`, and what it shows of its call
 
-pub whole_room : (c : Curve) (cp : Cubic) (n : ℕ) → n ≡ depth_of c cp → 0 + 2 ^ suc n ≤ 2 ^ 32
-whole_room c cp n e =
-    let small : suc n ≤ 11 = omega (arith, depth_most c cp) in
+pub none_over : (rule : Rule) → is_over rule (with_count 0 Fails) ≡ false
+unfolding is_over
+none_over rule = none_ends rule
+
+pub whole_room : (c : Curve) (cp : Cubic) → 0 + 2 ^ suc (depth_of c cp) ≤ 2 ^ 32
+whole_room c cp =
+    let small : suc (depth_of c cp) ≤ 11 = omega (arith, depth_most c cp) in
     omega (arith, pow_mono small)
 
-module _ (rule : Rule) (c : Curve) (v : View) (s : Subcurve) (p : List Float) (w : Float) (b : Bool)
-    (wide : w ≡ half_width c s.u0 s.u1) (lent : cubic_in p ≡ s.cp) (tested : b ≡ is_whole_thrown_by w v.zmax (cubic_in p)) where
-  is_tested : is_whole_thrown c v.zmax s ≡ b
+module _ (rule : Rule) (c : Curve) (v : View) (s : Subcurve) (p : List Float) (lent : cubic_in p ≡ s.cp) where
+  thrown-lent : (b : Bool) → is_whole_thrown_by (half_width c s.u0 s.u1) v.zmax (cubic_in p) ≡ b → is_whole_thrown c v.zmax s ≡ b
   unfolding is_whole_thrown
-  is_tested = cc
+  thrown-lent b e = rw (← lent) e
 
-  pub whole_shut : (y : List Float) → b ≡ true → (last_in 1 y ≡ leaf_by rule c v s (depth_of c s.cp)) × (0 ≡ count_by rule c v s (depth_of c s.cp))
-  unfolding last_in
-  whole_shut y t = (none_open rule c v s _ (is_tested ∙ t), none_counted rule c v s _ (is_tested ∙ t))
+  pub whole_shut : is_whole_thrown_by (half_width c s.u0 s.u1) v.zmax (cubic_in p) ≡ true → (r : Reached) → r ≡ with_count 0 Fails → r ≡ reached_by rule c v s (depth_of c s.cp)
+  whole_shut e r z =
+      let t = thrown-lent true e in
+      z ∙ rw (← none_open rule c v s (depth_of c s.cp) t, ← none_counted rule c v s (depth_of c s.cp) t)
 
-  module _ (n m : ℕ) (l x y : List Float) (q : ℕ) (is_open_lem : b ≡ false) (deep : n ≡ depth_of c s.cp) (fixed : l ≡ view_floats v)
-      (walk : reached q x m ≡ walk_in rule c (view_from l) n (subcurve_in p s.u0 s.u1) (reached 1 y 0)) where
-    whole-reached : reached q x m ≡ (leaf_by rule c v s (depth_of c s.cp), count_by rule c v s (depth_of c s.cp))
-    whole-reached =
-        let start : reached 1 y 0 ≡ reached_by 0 Fails = unfold reached last_in in refl in
-        rw (walk, subcurve_back s p lent, start, deep, fixed, view_back) (walked rule c v s (depth_of c s.cp) (is_tested ∙ is_open_lem))
-
-    pub whole_walked : (last_in q x ≡ leaf_by rule c v s (depth_of c s.cp)) × (m ≡ count_by rule c v s (depth_of c s.cp))
-    whole_walked =
-        let last : last_in q x ≡ (reached q x m).0 = unfold reached in refl in
-        let count : m ≡ (reached q x m).1 = unfold reached in refl in
-        (last ∙ ap (λ (r : Reached). r.0) whole-reached, count ∙ ap (λ (r : Reached). r.1) whole-reached)
+  pub whole_walked : is_whole_thrown_by (half_width c s.u0 s.u1) v.zmax (cubic_in p) ≡ false → (r q : Reached) → q ≡ with_count 0 Fails
+      → r ≡ walk_in rule c v (depth_of c s.cp) (subcurve_in p s.u0 s.u1) q → r ≡ reached_by rule c v s (depth_of c s.cp)
+  whole_walked e r q z w = w ∙ rw (subcurve_back s p lent, z) (walked rule c v s (depth_of c s.cp) (thrown-lent false e))

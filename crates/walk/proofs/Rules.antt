@@ -1,18 +1,14 @@
 -- What the rules have in common. Assumes nothing.
 use mathlib.Core.Bool.{Bool, true, false, not, cond, ◌||◌, false≢true, true≢false}
-use mathlib.Core.List.{List}
 use mathlib.Core.Path.{◌≡◌, refl}
-use Prim.Native.Nat.{ℕ}
-use borrow.Author.Tests.{ne_eqb}
 use lib.Ieee.{Float, nan, inf, fin, is_nan, lt}
+use Rattle.limits.specs.declared.refusal.Refusal.{Refusal}
 use Rattle.leaf.specs.declared.leaf.Leaf.{Leaf}
 use Rattle.leaf.specs.declared.leaf.Leaf.TheVariants.{Passes, Fails, NoFrame}
-use Rattle.leaf.specs.Found.{distance_from}
 use Rattle.walk.specs.declared.rule.Rule.{Rule}
 use Rattle.walk.specs.declared.rule.Rule.TheVariants.{Last, Nearest}
 use Rattle.walk.specs.Rule.{is_counted, is_better, counts, ends, beats}
 use Rattle.walk.specs.Steps.{takes_place, later}
-use Rattle.walk.specs.Walk.{last_in}
 
 -- ---- a leaf that ends the walk
 
@@ -54,13 +50,21 @@ goes_on_lem rule (NoFrame k t) before e h = go (is_counted rule t)
     go true = e
     go false = h
 
+-- so what was not ended is, where this leaf ends it
+pub ends-later : (rule : Rule) (l before : Leaf) → ends rule before ≡ false → ends rule (later rule l before) ≡ ends rule l
+ends-later rule l before h = go (ends rule l) refl
+  where
+    go : (b : Bool) → ends rule l ≡ b → ends rule (later rule l before) ≡ ends rule l
+    go true e = rw (end_takes rule l before e)
+    go false e = rw e (goes_on_lem rule l before e h)
+
 pub none_ends : (rule : Rule) → ends rule Fails ≡ false
 unfolding ends
 none_ends Last = refl
 none_ends Nearest = refl
 
 -- a leaf with no frame ends it where it passes
-pub no_frame_ends : (rule : Rule) (k : ℕ) (t : Float) → ends rule (NoFrame k t) ≡ is_counted rule t
+pub no_frame_ends : (rule : Rule) (k : Refusal) (t : Float) → ends rule (NoFrame k t) ≡ is_counted rule t
 unfolding ends is_counted
 no_frame_ends Last k t = refl
 no_frame_ends Nearest k t = refl
@@ -115,9 +119,3 @@ chooses Nearest (Passes at f) Fails e h = absurd (false≢true e)
 chooses Nearest (Passes at f) (NoFrame k t) e h = refl
 chooses Nearest Fails q e h = absurd (false≢true h)
 chooses Nearest (NoFrame k t) q e h = rw h
-
--- ---- how the code holds it
-
-pub number_in : (w : ℕ) (l : List Float) → (w ≡ 0 → ⊥) → (w ≡ 1 → ⊥) → last_in w l ≡ NoFrame w (distance_from l)
-unfolding last_in
-number_in w l a b = rw (ne_eqb w 0 a, ne_eqb w 1 b)

@@ -27,7 +27,7 @@ distance_of (Passes at f) = at.t
 distance_of Fails = nan
 distance_of (NoFrame k t) = t
 
--- 01: it stops the walk, where it is open: it passes with no frame, or with distance equal to 0
+-- it stops the walk, where it is open: it passes with no frame, or with distance equal to 0
 abbrev pub stops : Leaf → Bool
 stops (Passes at f) = eq at.t 0f
 stops Fails = false

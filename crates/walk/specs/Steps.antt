@@ -1,5 +1,5 @@
 -- The walk, as the code goes: what each step makes of what was reached so far. Definitions only. The contract of `walk_whole` does not cite them.
-use Rattle.std.specs.Prelude.{Bool, cond, List, ℕ, ◌+◌, Float}
+use Rattle.std.specs.Prelude.{Bool, cond, ℕ, ◌+◌, Float}
 use Rattle.bisection.specs.Walk.{walk_of, half_step_of}
 use Rattle.curve.specs.declared.curve.Curve.{Curve}
 use Rattle.frame.specs.declared.frame.View.{View}
@@ -10,16 +10,12 @@ use Rattle.leaf.specs.declared.leaf.Leaf.{Leaf}
 use Rattle.leaf.specs.declared.leaf.Leaf.TheVariants.{Passes, Fails, NoFrame}
 use Rattle.leaf.specs.Leaf.{leaf_of}
 use Rattle.walk.specs.declared.rule.Rule.{Rule}
+use Rattle.walk.specs.declared.walk.Reached.{Reached}
 use Rattle.walk.specs.Rule.{is_counted, is_better, ends}
-use Rattle.walk.specs.Walk.{last_in}
-
--- the answer of the leaf that decides so far, or `Fails` where none passed, and how many subcurves were entered
-abbrev pub Reached : Type 0
-Reached = Leaf × ℕ
 
 -- one more subcurve
 unfoldable pub entered : Reached → Reached
-entered r = (r.0, r.1 + 1)
+entered r = record { leaf = r.leaf; looked = r.looked + 1 }
 
 module _ (rule : Rule) where
   -- a leaf with a frame, at this distance, takes the place of the one before
@@ -34,18 +30,13 @@ module _ (rule : Rule) where
   later (NoFrame k t) before = cond (is_counted rule t) (NoFrame k t) before
 
   unfoldable pub settled : Leaf → Reached → Reached
-  settled l r = (later l r.0, r.1)
+  settled l r = record { leaf = later l r.leaf; looked = r.looked }
 
   unfoldable pub is_over : Reached → Bool
-  is_over r = ends rule r.0
+  is_over r = ends rule r.leaf
 
   unfoldable pub walk_in : Curve → View → ℕ → Subcurve → Reached → Reached
   walk_in c v = walk_of low_half high_half (is_thrown c v.zmax) entered (λ s. settled (leaf_of c v s)) is_over
 
   unfoldable pub half_in : Curve → View → ℕ → Subcurve → Reached → Reached
   half_in c v = half_step_of low_half high_half (is_thrown c v.zmax) entered (λ s. settled (leaf_of c v s)) is_over
-
--- ---- how the code holds it
-
-unfoldable pub reached : ℕ → List Float → ℕ → Reached
-reached w l n = (last_in w l, n)

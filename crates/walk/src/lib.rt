@@ -5,5 +5,5 @@
 mod rule;
 mod walk;
 
-pub use rule::{HIT, MISS, Rule};
-pub use walk::walk_aimed;
+pub use rule::Rule;
+pub use walk::{Reached, walk_aimed};

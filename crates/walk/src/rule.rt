@@ -1,97 +1,85 @@
 // Which leaf decides, and what a walk has come to by it.
-ghost use Rattle.std.specs.Prelude.{◌≡◌, ℕ, ◌≤◌, Float};
-ghost use Rattle.leaf.specs.declared.leaf.Leaf.TheVariants.{NoFrame};
+ghost use Rattle.std.specs.Prelude.{◌≡◌};
 ghost use Rattle.walk.specs.Rule.{is_counted, is_better, ends};
 ghost use Rattle.walk.specs.Steps.{takes_place, later};
-ghost use Rattle.walk.specs.Walk.{last_in};
 
-use leaf::{FOUND, Leaf, distance_in, found_floats, put_distance};
+use leaf::Leaf;
 
-// `Last`: the last leaf that passes, and the walk ends at one with no frame or at distance zero (01: the stop).
+// `Last`: the last leaf that passes, and the walk ends at one with no frame or at distance zero.
 // `Nearest`: the nearest leaf that passes, the first of those as near, and the walk ends at one with no frame. A leaf at
 // a NaN distance does not pass.
-#[derive(Clone, Copy)]
+// It is no type parameter: with the walk in the machine's code twice, a beam thrown out takes 4.5 % more instructions, a
+// hit 4 %, and the nearest 5.5 %.
+#[derive(Clone, Copy, Debug, PartialEq, Eq)]
 pub enum Rule {
     Last,
     Nearest,
 }
 
-// What a walk has come to is one byte, so that every step hands it on in a register: a hit, a miss, or the number of a
-// leaf with no frame. The crossing of a hit with its frame, or the distance where there is none, is among the floats that
-// the walk fills.
-pub const HIT: u8 = 0;
-
-pub const MISS: u8 = 1;
-
-// Whether a leaf that passes its tests at distance t does so by the rule.
-fn is_counted(rule: Rule, t: f32) -> bool
-    ensures { result ≡ is_counted rule t }
-{
-    match rule {
-        Rule::Last => true,
-        Rule::Nearest => t == t,
-    }
-}
-
-// Whether a leaf at distance t goes before an earlier one.
-fn is_better(rule: Rule, t: f32, earlier: f32) -> bool
-    ensures { result ≡ is_better rule t earlier }
-{
-    match rule {
-        Rule::Last => true,
-        Rule::Nearest => t < earlier,
-    }
-}
-
-// Whether a leaf with a frame, at distance t, takes the place of what the walk has come to.
-fn takes_place(rule: Rule, t: f32, found: &[f32; FOUND], so_far: u8) -> bool
-    ensures { result ≡ takes_place rule t (last_in so_far found.now) }
-{
-    if so_far == MISS {
-        is_counted(rule, t)
-    } else {
-        is_better(rule, t, distance_in(found))
-    }
-}
-
-// What a leaf's answer makes of the walk so far.
-pub fn settle(rule: Rule, l: Leaf, found: &mut [f32; FOUND], so_far: u8) -> u8
-    requires { (number : ℕ) (t : Float) → l ≡ NoFrame number t → 2 ≤ number }
-    ensures { last_in result found.new ≡ later rule l (last_in so_far found.old) }
-{
-    match l {
-        Leaf::Passes(at, f) => {
-            if takes_place(rule, at.t, found, so_far) {
-                *found = found_floats(at, f);
-                HIT
-            } else {
-                so_far
-            }
-        }
-        Leaf::Fails => so_far,
-        Leaf::NoFrame(number, t) => {
-            if is_counted(rule, t) {
-                put_distance(found, t);
-                number
-            } else {
-                so_far
-            }
+impl Rule {
+    // Whether a leaf that passes its tests at distance t does so by the rule.
+    #[tactic(auto, unfolding(crate::specs::Rule::is_counted))]
+    fn is_counted(self, t: f32) -> bool
+        ensures { result ≡ is_counted self t }
+    {
+        match self {
+            Rule::Last => true,
+            Rule::Nearest => !t.is_nan(),
         }
     }
-}
 
-// Whether the walk goes no further.
-pub fn is_over(rule: Rule, w: u8, found: &[f32; FOUND]) -> bool
-    ensures { result ≡ ends rule (last_in w found.now) }
-{
-    if w == HIT {
-        match rule {
-            Rule::Last => distance_in(found) == 0.0,
-            Rule::Nearest => false,
+    // Whether a leaf at distance t goes before an earlier one.
+    #[tactic(auto, unfolding(crate::specs::Rule::is_better))]
+    fn is_better(self, t: f32, earlier: f32) -> bool
+        ensures { result ≡ is_better self t earlier }
+    {
+        match self {
+            Rule::Last => true,
+            Rule::Nearest => t < earlier,
         }
-    } else if w == MISS {
-        false
-    } else {
-        is_counted(rule, distance_in(found))
+    }
+
+    // Whether a leaf ends the walk.
+    #[tactic(auto, unfolding(crate::specs::Rule::ends, crate::specs::Rule::is_counted))]
+    fn ends_at(self, l: &Leaf) -> bool
+        ensures { result ≡ ends self l.now }
+    {
+        match l {
+            Leaf::Passes(at, _) => match self {
+                Rule::Last => at.t == 0.0,
+                Rule::Nearest => false,
+            },
+            Leaf::Fails => false,
+            Leaf::NoFrame(_, t) => self.is_counted(*t),
+        }
+    }
+
+    // Whether a leaf with a frame, at distance t, takes the place of the one before.
+    #[tactic(auto, unfolding(crate::specs::Steps::takes_place))]
+    fn takes_place(self, t: f32, before: &Leaf) -> bool
+        ensures { result ≡ takes_place self t before.now }
+    {
+        match before {
+            Leaf::Passes(at, _) => self.is_better(t, at.t),
+            Leaf::Fails => self.is_counted(t),
+            Leaf::NoFrame(_, earlier) => self.is_better(t, *earlier),
+        }
+    }
+
+    // What a leaf's answer makes of the one that decided so far, and whether it ends the walk.
+    #[tactic(auto, using(crate::proofs::Rules::none_ends), unfolding(crate::specs::Steps::later))]
+    pub fn settle(self, l: Leaf, so_far: &mut Leaf) -> bool
+        ensures decided { so_far.new ≡ later self l so_far.old }
+        ensures ended { result ≡ ends self l }
+    {
+        let is_taken = match l {
+            Leaf::Passes(at, _) => self.takes_place(at.t, so_far),
+            Leaf::Fails => return false,
+            Leaf::NoFrame(_, distance) => self.is_counted(distance),
+        };
+        if is_taken {
+            *so_far = l;
+        }
+        self.ends_at(&l)
     }
 }
