@@ -1,9 +1,10 @@
 -- Boxes: object_bound and world_bound. Definitions only.
-use Rattle.std.specs.Prelude.{not, List, [], ◌∷◌, Option, Result, Ok, ok_or, Float}
+use Rattle.std.specs.Prelude.{ℕ, not, List, [], ◌∷◌, Option, Result, Ok, ok_or, Float}
 use Rattle.float.specs.Arith.{◌⊗◌, half}
 use Rattle.float.specs.Basic.{max_of}
 use Rattle.geometry.specs.declared.bounds.Bounds3f.{Bounds3f}
 use Rattle.geometry.specs.Bounds.{bounds_of, union, expanded}
+use Rattle.geometry.specs.Point.{point_from}
 use Rattle.matrix.specs.declared.Matrix4x4.{Matrix4x4}
 use Rattle.transform.specs.Bounds.{transform_bounds}
 use Rattle.limits.specs.Refused.{Table, first_of, told}
@@ -51,3 +52,15 @@ world_bound_refusals l m = (not (is_curve l), refusal.Curve) ∷ (not (matrix_wi
 
 unfoldable pub world_bound : List Float → Matrix4x4 → Result Bounds3f Refusal
 world_bound l m = told (first_of (world_bound_refusals l m)) (world_bound_of (curve_from l) m)
+
+-- ---- a box as floats that are lent, for functions inside
+
+-- where the lower corner starts, and the upper
+abbrev pub lower_at : ℕ
+lower_at = 0
+
+abbrev pub upper_at : ℕ
+upper_at = 4
+
+unfoldable pub bounds_in : List Float → Bounds3f
+bounds_in l = record { p_min = point_from l lower_at; p_max = point_from l upper_at }
