@@ -68,24 +68,41 @@ pub fn axis_in(p: &[f32; POINTS], k: usize) -> Axis
     }
 }
 
+impl From<Cubic> for [f32; POINTS] {
+    ghost from_gives = { λ cp p. cubic_in p ≡ cp };
+
+    fn from(cp: Cubic) -> [f32; POINTS] {
+        [
+            cp.p0.x, cp.p0.y, cp.p0.z, 0.0, cp.p1.x, cp.p1.y, cp.p1.z, 0.0, cp.p2.x, cp.p2.y, cp
+                .p2
+                .z, 0.0, cp.p3.x, cp.p3.y, cp.p3.z, 0.0,
+        ]
+    }
+}
+
+impl From<&[f32; POINTS]> for Cubic {
+    ghost from_gives = { λ p cp. cp ≡ cubic_in p.now };
+
+    fn from(p: &[f32; POINTS]) -> Cubic {
+        Cubic {
+            p0: point_from(p, P0),
+            p1: point_from(p, P1),
+            p2: point_from(p, P2),
+            p3: point_from(p, P3),
+        }
+    }
+}
+
 pub fn points_of(cp: Cubic) -> [f32; POINTS]
     ensures { cubic_in result ≡ cp }
 {
-    [
-        cp.p0.x, cp.p0.y, cp.p0.z, 0.0, cp.p1.x, cp.p1.y, cp.p1.z, 0.0, cp.p2.x, cp.p2.y, cp.p2.z,
-        0.0, cp.p3.x, cp.p3.y, cp.p3.z, 0.0,
-    ]
+    <[f32; POINTS]>::from(cp)
 }
 
 pub fn cubic_in(p: &[f32; POINTS]) -> Cubic
     ensures { result ≡ cubic_in p.now }
 {
-    Cubic {
-        p0: point_from(p, P0),
-        p1: point_from(p, P1),
-        p2: point_from(p, P2),
-        p3: point_from(p, P3),
-    }
+    Cubic::from(p)
 }
 
 // subdivide_bezier: the half at the start, cp_split[0..4], and the half at the end, cp_split[3..7].
@@ -150,11 +167,19 @@ pub fn eval_bezier(p: &[f32; POINTS], u: f32) -> [f32; EVAL]
     ]
 }
 
+impl From<&[f32; EVAL]> for Eval {
+    ghost from_gives = { λ e at. at ≡ eval_in e.now };
+
+    fn from(e: &[f32; EVAL]) -> Eval {
+        Eval {
+            p: point_from(e, POINT),
+            d: vector_from(e, DERIVATIVE),
+        }
+    }
+}
+
 pub fn eval_in(e: &[f32; EVAL]) -> Eval
     ensures { result ≡ eval_in e.now }
 {
-    Eval {
-        p: point_from(e, POINT),
-        d: vector_from(e, DERIVATIVE),
-    }
+    Eval::from(e)
 }
