@@ -2,7 +2,7 @@
 use crate::answer::Answer;
 use crate::inputs::Inputs;
 use crate::operation::Operation;
-use bezier::Cubic;
+use bezier::{Cubic, POINTS};
 
 pub struct Corners;
 
@@ -17,7 +17,7 @@ impl Operation for Corners {
             p2: inputs.point()?,
             p3: inputs.point()?,
         };
-        let c = bezier::corners_of(&bezier::points_of(cp));
+        let c = bezier::corners_of(&<[f32; POINTS]>::from(cp));
         out.floats(&[c.x.least, c.y.least, c.z.least])?;
         out.floats(&[c.x.greatest, c.y.greatest, c.z.greatest])
     }

@@ -93,18 +93,6 @@ impl From<&[f32; POINTS]> for Cubic {
     }
 }
 
-pub fn points_of(cp: Cubic) -> [f32; POINTS]
-    ensures { cubic_in result ≡ cp }
-{
-    <[f32; POINTS]>::from(cp)
-}
-
-pub fn cubic_in(p: &[f32; POINTS]) -> Cubic
-    ensures { result ≡ cubic_in p.now }
-{
-    Cubic::from(p)
-}
-
 // subdivide_bezier: the half at the start, cp_split[0..4], and the half at the end, cp_split[3..7].
 pub fn subdivide_bezier(p: &[f32; POINTS]) -> ([f32; POINTS], [f32; POINTS])
     ensures low { cubic_in result.0 ≡ low_of (cubic_in p.now) }
@@ -118,18 +106,6 @@ pub fn subdivide_bezier(p: &[f32; POINTS]) -> ([f32; POINTS], [f32; POINTS])
         points_by(x.0, y.0, z.0, fourth.0),
         points_by(x.1, y.1, z.1, fourth.1),
     )
-}
-
-pub fn low_half(p: &[f32; POINTS]) -> [f32; POINTS]
-    ensures { cubic_in result ≡ low_of (cubic_in p.now) }
-{
-    subdivide_bezier(p).0
-}
-
-pub fn high_half(p: &[f32; POINTS]) -> [f32; POINTS]
-    ensures { cubic_in result ≡ high_of (cubic_in p.now) }
-{
-    subdivide_bezier(p).1
 }
 
 // The point and the derivative of eval_bezier, four floats each.
@@ -176,10 +152,4 @@ impl From<&[f32; EVAL]> for Eval {
             d: vector_from(e, DERIVATIVE),
         }
     }
-}
-
-pub fn eval_in(e: &[f32; EVAL]) -> Eval
-    ensures { result ≡ eval_in e.now }
-{
-    Eval::from(e)
 }

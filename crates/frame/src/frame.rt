@@ -4,7 +4,7 @@
 ghost use Rattle.std.specs.Prelude.{◌≡◌};
 ghost use Rattle.frame.specs.Frame.{up_vector, ray_frame, projected_cubic, aim_of, aimed_of, view_of, framed_points, framed_along};
 
-use bezier::{Cubic, cubic_in};
+use bezier::Cubic;
 use curve::CurveRef;
 use geometry::{Ray, Vector3f, vec3_coordinate_system};
 use limits::Refusal;
@@ -119,5 +119,5 @@ fn frame_points(cp: Cubic, a: Aim) -> Result<Framed, Refusal>
 pub fn frame_aimed(curve: &CurveRef<'_>, a: Aim) -> Result<Framed, Refusal>
     ensures { result ≡ framed_along curve.now a }
 {
-    frame_points(cubic_in(&curve.control_points()), a)
+    frame_points(Cubic::from(&curve.control_points()), a)
 }

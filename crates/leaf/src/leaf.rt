@@ -3,7 +3,7 @@ ghost use Rattle.std.specs.Prelude.{◌≡◌};
 ghost use Rattle.overlap.specs.Subcurve.{subcurve_in};
 ghost use Rattle.leaf.specs.Leaf.{segment_dir, edge_at, line_at, v_of, crossing_at, crossing_of, crosswise_of, along_of, frame_of, leaf_from, leaf_of};
 
-use bezier::{Cubic, Eval, POINTS, cubic_in, eval_bezier, eval_in};
+use bezier::{Cubic, Eval, POINTS, eval_bezier};
 use curve::CurveRef;
 use frame::View;
 use geometry::{Point2f, Point3f, Vector2f, Vector3f, clamp, lerp};
@@ -80,7 +80,7 @@ fn cross_at(
 {
     let u = clamp(lerp(w, u0, u1), u0, u1);
     let hit_width = curve.width_at(u);
-    let pc = eval_in(&eval_bezier(p, clamp(w, 0.0, 1.0)));
+    let pc = Eval::from(&eval_bezier(p, clamp(w, 0.0, 1.0)));
     let dist2 = pc.p.x * pc.p.x + pc.p.y * pc.p.y;
     if (dist2 > hit_width * hit_width * 0.25) | (pc.p.z < 0.0) | (pc.p.z > view.zmax) {
         None
@@ -104,7 +104,7 @@ fn cross_leaf(
 ) -> Option<Crossing>
     ensures { result ≡ crossing_of curve.now view.now (subcurve_in p.now u0 u1) }
 {
-    let cp = cubic_in(p);
+    let cp = Cubic::from(p);
     let dir = segment_dir(cp);
     let denom = dir.length_squared();
     if (edge_at(cp.p0, cp.p1) < 0.0) | (edge_at(cp.p3, cp.p2) < 0.0) | (denom == 0.0) {
@@ -156,7 +156,7 @@ fn along(d: Vector3f, dpdu: Vector3f, dpdv: Vector3f) -> Result<Frame, Refusal>
 fn frame_at(curve: &CurveRef<'_>, view: &View, u: f32) -> Result<Frame, Refusal>
     ensures { result ≡ frame_of curve.now view.now u }
 {
-    let at = eval_in(&eval_bezier(&curve.segment_points(), u));
+    let at = Eval::from(&eval_bezier(&curve.segment_points(), u));
     let zero = Vector3f {
         x: 0.0,
         y: 0.0,

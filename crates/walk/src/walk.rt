@@ -7,7 +7,7 @@ ghost use Rattle.walk.specs.Steps.{is_over, walk_in, half_in};
 ghost use Rattle.walk.specs.Walk.{reached_by, Walked};
 
 use crate::rule::Rule;
-use bezier::{POINTS, points_of, subdivide_bezier};
+use bezier::{POINTS, subdivide_bezier};
 use curve::CurveRef;
 use frame::{Aim, View, frame_aimed};
 use leaf::{Leaf, run_leaf};
@@ -91,7 +91,7 @@ fn walk_whole(curve: &CurveRef<'_>, view: View, s: Subcurve, rule: Rule, reached
         looked: 0,
     };
     let w = half_width(curve, s.u0, s.u1);
-    let points = points_of(s.cp);
+    let points = <[f32; POINTS]>::from(s.cp);
     if !is_thrown::<WHOLE>(w, view.zmax, &points) {
         let cuts = max_depth(curve, s.cp);
         let walk = Walk { curve, view, rule };

@@ -14,11 +14,11 @@ recursive_intersect-requires-clause-goes_on c = none_over _
 pub returns-then-not-is_thrown : goal.returns-then-not-is_thrown
 returns-then-not-is_thrown c =
     let a = c.args in
-    let t : is_whole_thrown_by (half_width a.curve.now a.s.u0 a.s.u1) a.view.zmax (cubic_in c.points_of-points.result) ≡ false = cc in
-    whole_walked _ _ _ _ _ c.points_of-points.ensures t _ _ refl (rw c.max_depth-cuts.ensures at c.recursive_intersect.ensures.walked)
+    let t : is_whole_thrown_by (half_width a.curve.now a.s.u0 a.s.u1) a.view.zmax (cubic_in c.from-points.result) ≡ false = cc in
+    whole_walked _ _ _ _ _ c.from-points.ensures t _ _ refl (rw c.max_depth-cuts.ensures at c.recursive_intersect.ensures.walked)
 
 pub returns-else-not-is_thrown : goal.returns-else-not-is_thrown
 returns-else-not-is_thrown c =
     let a = c.args in
-    let t : is_whole_thrown_by (half_width a.curve.now a.s.u0 a.s.u1) a.view.zmax (cubic_in c.points_of-points.result) ≡ true = cc in
-    whole_shut _ _ _ _ _ c.points_of-points.ensures t _ refl
+    let t : is_whole_thrown_by (half_width a.curve.now a.s.u0 a.s.u1) a.view.zmax (cubic_in c.from-points.result) ≡ true = cc in
+    whole_shut _ _ _ _ _ c.from-points.ensures t _ refl
