@@ -53,7 +53,7 @@ impl Answer {
     }
 
     pub(crate) fn point(&mut self, p: Point3f) -> Option<()> {
-        self.floats(&[p.x, p.y, p.z])
+        self.vector(Vector3f::from(p))
     }
 
     pub(crate) fn bounds(&mut self, b: Bounds3f) -> Option<()> {

@@ -35,11 +35,7 @@ impl Inputs<'_> {
     }
 
     pub(crate) fn vector(&mut self) -> Option<Vector3f> {
-        Some(Vector3f {
-            x: self.float()?,
-            y: self.float()?,
-            z: self.float()?,
-        })
+        Some(Vector3f::from(self.point()?))
     }
 
     pub(crate) fn point(&mut self) -> Option<Point3f> {
