@@ -1,1 +1,2 @@
 pub mod FramedRay
+pub mod Unframed

@@ -6,7 +6,10 @@ use mathlib.Core.Path.{◌≡◌, refl, sym, ap, subst, ◌∙◌}
 use Prim.Native.Nat.{ℕ, ◌+◌, ◌-◌, ◌^◌, ◌≤◌}
 use native.Mathlib.Numerals.{add-one}
 use native.Mathlib.Omega.{arith}
+use Rattle.std.specs.Prelude.{Result, Ok, Err}
 use Rattle.geometry.specs.declared.ray.Ray.{Ray}
+use Rattle.limits.specs.declared.refusal.Refusal.{Refusal}
+use Rattle.limits.specs.Refused.{number_of}
 use Rattle.bisection.specs.Below.{or_else, at_or, first_below, last_below}
 use Rattle.bisection.specs.Nodes.{passes_at, first_open, last_open, open_up_to}
 use Rattle.bisection.proofs.Below.{IsFirst, IsLast, first_is, last_is}
@@ -26,7 +29,7 @@ use Rattle.walk.specs.Leaves.{subcurve_at, thrown, whole_open, open_at, leaf_at}
 use Rattle.walk.specs.Rule.{passes, stops}
 use Rattle.interaction.specs.declared.SurfaceInteraction.{SurfaceInteraction}
 use Rattle.intersect.specs.declared.Intersection.{Intersection}
-use Rattle.intersect.specs.declared.Intersection.TheVariants.{Hit, Miss, Refused}
+use Rattle.intersect.specs.declared.Intersection.TheVariants.{Hit, Miss}
 use Rattle.intersect.specs.Answer.{met_count}
 use Rattle.intersect.specs.Correct.{NoneThrown, OpenAnd, NoneIn, FirstIs, LastIs, StopsWith, SomePasses, NonePasses, Decides, open_pieces, IsHit, IsMiss, Decided}
 use Rattle.intersect.specs.Intersect.{reply_of, stop_of, last_of, count_of, replied_at}
@@ -83,12 +86,12 @@ module _ (c : Curve) (v : View) (s : Subcurve) (d : ℕ) where
     -- ---- what each reply says
 
     -- A hit has the count, and its record is that of the stop or else of the last: of a leaf that is open and passes, and of nothing else.
-    -- A miss has the count, and no open leaf passes. A refusal has the number of the stop, which has no frame.
-    abbrev Says : Intersection → Type 0
-    Says (Hit r n) =
+    -- A miss has the count, and no open leaf passes. A refusal has the reason of the stop, which has no frame.
+    abbrev Says : Result Intersection Refusal → Type 0
+    Says (Ok (Hit r n)) =
         (n ≡ count_of c v s d) × ((i : ℕ) × (at : Crossing) × (f : Frame) × Decides c v s d i × OpenAnd c v s d passes i × (leaf_at c v s d i ≡ Passes at f) × (r ≡ record_of c ray flip at f))
-    Says (Miss n) = (n ≡ count_of c v s d) × NonePasses c v s d
-    Says (Refused k) = StopsWith c v s d k
+    Says (Ok (Miss n)) = (n ≡ count_of c v s d) × NonePasses c v s d
+    Says (Err k) = StopsWith c v s d k
 
     at_stop : (i : ℕ) → stop_of c v s d ≡ some i → OpenAnd c v s d stops i → (l : Leaf) → leaf_at c v s d i ≡ l → Says (reply_of c ray flip (count_of c v s d) l)
     at_stop i e h (Passes at f) g = (refl, (i, at, f, inl e, (h.0, h.1, stop_passes (leaf_at c v s d i) h.2), g, refl))
@@ -104,57 +107,57 @@ module _ (c : Curve) (v : View) (s : Subcurve) (d : ℕ) where
     unfolding replied_at
     says = go (stop_of c v s d) refl stop_is_first (last_of c v s d) refl last_is_last
       where
-        go : (o : Option ℕ) → stop_of c v s d ≡ o → FirstIs c v s d o → (p : Option ℕ) → last_of c v s d ≡ p → LastIs c v s d p → Says (at_or (λ i. reply_of c ray flip (count_of c v s d) (leaf_at c v s d i)) (Miss (count_of c v s d)) (or_else o p))
+        go : (o : Option ℕ) → stop_of c v s d ≡ o → FirstIs c v s d o → (p : Option ℕ) → last_of c v s d ≡ p → LastIs c v s d p → Says (at_or (λ i. reply_of c ray flip (count_of c v s d) (leaf_at c v s d i)) (Ok (Miss (count_of c v s d))) (or_else o p))
         go (some i) e h p e' h' = at_stop i e h.0 (leaf_at c v s d i) refl
         go none e h (some i) e' h' = at_last i e e' h h'.0 (leaf_at c v s d i) refl
         go none e h none e' h' = (refl, h')
 
     -- ---- and which reply it is
 
-    refuses : (k : ℕ) → StopsWith c v s d k → replied_at c ray flip v s d ≡ Refused k
+    refuses : (k : Refusal) → StopsWith c v s d k → replied_at c ray flip v s d ≡ Err k
     unfolding replied_at
     refuses k h = rw (h.2, h.3)
 
-    refused : (k : ℕ) → replied_at c ray flip v s d ≡ Refused k → StopsWith c v s d k
+    refused : (k : Refusal) → replied_at c ray flip v s d ≡ Err k → StopsWith c v s d k
     refused k e = subst Says e says
 
-    pub refusal-number : (k : ℕ) → replied_at c ray flip v s d ≡ Refused k → (14 ≤ k) × (k ≤ 16)
+    pub refusal-number : (k : Refusal) → replied_at c ray flip v s d ≡ Err k → (14 ≤ number_of k) × (number_of k ≤ 16)
     unfolding leaf_at
     refusal-number k e = let h = refused k e in no_frame c v (subcurve_at s d h.0) k h.1 h.3
 
-    hits : ((k : ℕ) → StopsWith c v s d k → ⊥) → SomePasses c v s d → IsHit (replied_at c ray flip v s d)
+    hits : ((k : Refusal) → StopsWith c v s d k → ⊥) → SomePasses c v s d → IsHit (replied_at c ray flip v s d)
     hits f p = go (replied_at c ray flip v s d) says
       where
-        go : (r : Intersection) → Says r → IsHit r
-        go (Hit r n) h = (r, n, refl)
-        go (Miss n) h = absurd (false≢true (sym (h.1 p.0 (omega arith) p.1.0 p.1.1) ∙ p.1.2))
-        go (Refused k) h = absurd (f k h)
+        go : (r : Result Intersection Refusal) → Says r → IsHit r
+        go (Ok (Hit r n)) h = (r, n, refl)
+        go (Ok (Miss n)) h = absurd (false≢true (sym (h.1 p.0 (omega arith) p.1.0 p.1.1) ∙ p.1.2))
+        go (Err k) h = absurd (f k h)
 
     hit : IsHit (replied_at c ray flip v s d) → SomePasses c v s d
     hit e = let h = subst Says e.2 says in (h.1.0, h.1.4)
 
-    misses : ((k : ℕ) → StopsWith c v s d k → ⊥) → NonePasses c v s d → IsMiss (replied_at c ray flip v s d)
+    misses : ((k : Refusal) → StopsWith c v s d k → ⊥) → NonePasses c v s d → IsMiss (replied_at c ray flip v s d)
     misses f p = go (replied_at c ray flip v s d) says
       where
-        go : (r : Intersection) → Says r → IsMiss r
-        go (Hit r n) h = let o = h.1.4 in absurd (false≢true (sym (p h.1.0 (omega arith) o.0 o.1) ∙ o.2))
-        go (Miss n) h = (n, refl)
-        go (Refused k) h = absurd (f k h)
+        go : (r : Result Intersection Refusal) → Says r → IsMiss r
+        go (Ok (Hit r n)) h = let o = h.1.4 in absurd (false≢true (sym (p h.1.0 (omega arith) o.0 o.1) ∙ o.2))
+        go (Ok (Miss n)) h = (n, refl)
+        go (Err k) h = absurd (f k h)
 
     missed : IsMiss (replied_at c ray flip v s d) → NonePasses c v s d
     missed e = (subst Says e.1 says).1
 
-    recorded : (at : SurfaceInteraction) (n : ℕ) → replied_at c ray flip v s d ≡ Hit at n
+    recorded : (at : SurfaceInteraction) (n : ℕ) → replied_at c ray flip v s d ≡ Ok (Hit at n)
         → (i : ℕ) × (x : Crossing) × (f : Frame) × Decides c v s d i × (leaf_at c v s d i ≡ Passes x f) × (at ≡ record_of c ray flip x f)
     recorded at n e = let h = (subst Says e says).1 in (h.0, h.1, h.2, h.3, h.5, h.6)
 
     counted : (n : ℕ) → met_count (replied_at c ray flip v s d) ≡ some n → n ≡ count_of c v s d
     counted n = go (replied_at c ray flip v s d) says
       where
-        go : (r : Intersection) → Says r → met_count r ≡ some n → n ≡ count_of c v s d
-        go (Hit r m) h e = ap (at_or (λ i. i) 0) (sym e) ∙ h.0
-        go (Miss m) h e = ap (at_or (λ i. i) 0) (sym e) ∙ h.0
-        go (Refused k) h e = absurd (none-ne-some n e)
+        go : (r : Result Intersection Refusal) → Says r → met_count r ≡ some n → n ≡ count_of c v s d
+        go (Ok (Hit r m)) h e = ap (at_or (λ i. i) 0) (sym e) ∙ h.0
+        go (Ok (Miss m)) h e = ap (at_or (λ i. i) 0) (sym e) ∙ h.0
+        go (Err k) h e = absurd (none-ne-some n e)
 
     pub decided : Decided c ray flip v s d (replied_at c ray flip v s d)
     decided = record {

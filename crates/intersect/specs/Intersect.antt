@@ -1,12 +1,14 @@
--- The reply of `intersect` (01: Beam; Cutting and walking; Hit), by the subcurves and not by the walk. Definitions only.
+-- The reply of `intersect`, by the subcurves and not by the walk. Definitions only.
 -- Which leaves are open and what each answers stands in `specs/Leaves.antt` of `walk`, which pass and which stop the walk in `specs/Rule.antt` there. It
 -- follows from the curve, the view and the whole alone: the ray's time and the flag come in with the record.
-use Rattle.std.specs.Prelude.{Bool, not, List, ◌∷◌, ℕ, Float}
+use Rattle.std.specs.Prelude.{Bool, not, List, ◌∷◌, ℕ, Result, Ok, Err, Float}
 use Rattle.std.proofs.Math.Option.{Option}
 use Rattle.geometry.specs.declared.ray.Ray.{Ray}
 use Rattle.matrix.specs.declared.Matrix4x4.{Matrix4x4}
-use Rattle.limits.specs.Refusal.{Table, first_of, told}
-use Rattle.limits.specs.Within.{ray_refusals}
+use Rattle.limits.specs.declared.refusal.Refusal.{Refusal}
+use Rattle.limits.specs.declared.refusal.Refusal.TheVariants as refusal
+use Rattle.limits.specs.Refused.{Table, first_of, told}
+use Rattle.limits.specs.Ray.{ray_refusals}
 use Rattle.bisection.specs.Below.{or_else, at_or}
 use Rattle.bisection.specs.Nodes.{open_up_to, first_open, last_open}
 use Rattle.curve.specs.declared.curve.Curve.{Curve}
@@ -14,7 +16,6 @@ use Rattle.curve.specs.Layout.{curve_from}
 use Rattle.curve.specs.Curve.{is_curve}
 use Rattle.frame.specs.declared.frame.View.{View}
 use Rattle.frame.specs.declared.frame.Framed.{Framed}
-use Rattle.frame.specs.declared.frame.Framed.TheVariants as framed
 use Rattle.frame.specs.Frame.{framed_curve}
 use Rattle.overlap.specs.declared.subcurve.Subcurve.{Subcurve}
 use Rattle.overlap.specs.Depth.{depth_of}
@@ -26,7 +27,7 @@ use Rattle.leaf.specs.Record.{flips_of, record_of}
 use Rattle.walk.specs.Leaves.{thrown, whole_open, leaf_at}
 use Rattle.walk.specs.Rule.{passes, stops}
 use Rattle.intersect.specs.declared.Intersection.{Intersection}
-use Rattle.intersect.specs.declared.Intersection.TheVariants.{Hit, Miss, Refused}
+use Rattle.intersect.specs.declared.Intersection.TheVariants.{Hit, Miss}
 
 module _ (c : Curve) (v : View) (s : Subcurve) (d : ℕ) where
   -- the first open leaf that passes with no frame or with distance equal to 0
@@ -46,29 +47,28 @@ module _ (c : Curve) (v : View) (s : Subcurve) (d : ℕ) where
 -- the ray in the object's frame, and whether normals turn
 module _ (c : Curve) (ray : Ray) (flip : Bool) where
   -- what a leaf replies with n subcurves counted: its record, or why there is none
-  abbrev pub reply_of : ℕ → Leaf → Intersection
-  reply_of n (Passes at f) = Hit (record_of c ray flip at f) n
-  reply_of n Fails = Miss n
-  reply_of n (NoFrame k t) = Refused k
+  abbrev pub reply_of : ℕ → Leaf → Result Intersection Refusal
+  reply_of n (Passes at f) = Ok (Hit (record_of c ray flip at f) n)
+  reply_of n Fails = Ok (Miss n)
+  reply_of n (NoFrame k t) = Err k
 
   -- The stop decides, and where there is none the last open leaf that passes. Where there is none of either it is a miss.
-  unfoldable pub replied_at : View → Subcurve → ℕ → Intersection
-  replied_at v s d = at_or (λ i. reply_of (count_of c v s d) (leaf_at c v s d i)) (Miss (count_of c v s d)) (or_else (stop_of c v s d) (last_of c v s d))
+  unfoldable pub replied_at : View → Subcurve → ℕ → Result Intersection Refusal
+  replied_at v s d = at_or (λ i. reply_of (count_of c v s d) (leaf_at c v s d i)) (Ok (Miss (count_of c v s d))) (or_else (stop_of c v s d) (last_of c v s d))
 
-  unfoldable pub intersect_whole : View → Subcurve → Intersection
+  unfoldable pub intersect_whole : View → Subcurve → Result Intersection Refusal
   intersect_whole v s = replied_at v s (depth_of c s.cp)
 
 -- ---- the call
 
-unfoldable pub intersect_framed : Curve → Bool → Framed → Intersection
-intersect_framed c flip (framed.Curve ray v cp) = intersect_whole c ray flip v (whole_of c cp)
-intersect_framed c flip framed.ZeroWeight = Refused 12
-intersect_framed c flip framed.ZeroLength = Refused 13
+unfoldable pub intersect_framed : Curve → Bool → Result Framed Refusal → Result Intersection Refusal
+intersect_framed c flip (Ok f) = intersect_whole c f.ray flip f.view (whole_of c f.cubic)
+intersect_framed c flip (Err reason) = Err reason
 
--- 9, 10, 11
+-- the curve, then the matrices and the ray
 unfoldable pub intersect_refusals : List Float → Matrix4x4 → Matrix4x4 → Ray → Table
-intersect_refusals l o2w w2o r = (not (is_curve l), 9) ∷ ray_refusals o2w w2o r
+intersect_refusals l o2w w2o r = (not (is_curve l), refusal.Curve) ∷ ray_refusals o2w w2o r
 
-unfoldable pub intersect_of : List Float → Matrix4x4 → Matrix4x4 → Bool → Ray → Intersection
+unfoldable pub intersect_of : List Float → Matrix4x4 → Matrix4x4 → Bool → Ray → Result Intersection Refusal
 intersect_of l o2w w2o reverse r =
-    told Refused (first_of (intersect_refusals l o2w w2o r)) (intersect_framed (curve_from l) (flips_of reverse o2w) (framed_curve (curve_from l) w2o r))
+    told (first_of (intersect_refusals l o2w w2o r)) (intersect_framed (curve_from l) (flips_of reverse o2w) (framed_curve (curve_from l) w2o r))
