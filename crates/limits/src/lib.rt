@@ -17,19 +17,22 @@ pub use refusal::Refusal;
 // How far a coordinate, a matrix entry or a time may be from zero.
 pub const LARGEST: f32 = 1048576.0;
 
-// Whether x is finite and at most the limit away from zero.
+// Whether x is finite and at most the limit away from zero: two comparisons, and no sign is taken off.
+#[tactic(auto, using(crate::proofs::Interval::interval), unfolding(crate::specs::Within::within))]
 pub fn is_within(x: f32, limit: f32) -> bool
     ensures { result ≡ within x limit }
 {
     (-limit <= x) & (x <= limit)
 }
 
+#[tactic(auto, unfolding(crate::specs::Within::width_within))]
 pub fn is_width_within(w: f32, least: f32, most: f32) -> bool
     ensures { result ≡ width_within w least most }
 {
     (least <= w) & (w <= most)
 }
 
+#[tactic(auto, unfolding(crate::specs::Within::row_within))]
 fn is_row_within(r: Row) -> bool
     ensures { result ≡ row_within r }
 {
@@ -40,6 +43,7 @@ fn is_row_within(r: Row) -> bool
 }
 
 // Whether a matrix passes refusal 10.
+#[tactic(auto, unfolding(crate::specs::Within::matrix_within))]
 pub fn is_matrix_within(m: Matrix4x4) -> bool
     ensures { result ≡ matrix_within m }
 {
@@ -47,6 +51,7 @@ pub fn is_matrix_within(m: Matrix4x4) -> bool
 }
 
 // Whether a ray passes refusal 11.
+#[tactic(auto, unfolding(crate::specs::Within::ray_within))]
 fn is_ray_within(r: Ray) -> bool
     ensures { result ≡ ray_within r }
 {
