@@ -1,4 +1,4 @@
--- A curve's record (01: a piece): its limits, and the part from umin to umax. Definitions only.
+-- A curve's record: its limits, and the part from umin to umax. Definitions only.
 use Rattle.std.specs.Prelude.{Bool, not, ◌&&◌, List, [], ◌∷◌, ℕ, eqb, length, get_or, Float}
 use Rattle.std.specs.Float.{nan, binary32}
 use Rattle.std.specs.Float.Ieee.{of_bits, le, lt}

@@ -1,4 +1,4 @@
--- The layout of a curve's record (01: a piece): which of its floats is what, and how many there are. Definitions only.
+-- The layout of a curve's record: which of its floats is what, and how many there are. Definitions only.
 use Rattle.std.specs.Prelude.{ℕ, ◌+◌, ◌*◌, List, [], ◌∷◌, get_or, take, drop, Float}
 use Rattle.std.specs.Float.{nan}
 use Rattle.geometry.specs.Point.{point_from}

@@ -1,15 +1,15 @@
-// A curve's record (01: a piece), its limits, and the part from umin to umax.
-ghost use Rattle.std.specs.Prelude.{◌≡◌};
-ghost use Rattle.curve.specs.Curve.{point_within, cubic_within, in_limits, is_curve};
+// A curve's values and their limits.
+#![tactic(auto, unfolding(crate::specs::Curve::point_within, crate::specs::Curve::cubic_within, crate::specs::Curve::in_limits))]
 
-use crate::layout::FLOATS;
-use crate::slices::curve_from;
+ghost use Rattle.std.specs.Prelude.{◌≡◌};
+ghost use Rattle.curve.specs.Curve.{point_within, cubic_within, in_limits};
+
 use bezier::Cubic;
 use geometry::Point3f;
 use limits::{is_width_within, is_within};
 
 // The segment's control points and widths, and the part of it that is the curve.
-#[derive(Clone, Copy)]
+#[derive(Clone, Copy, Debug, PartialEq)]
 pub struct Curve {
     pub cp: Cubic,
     pub width0: f32,
@@ -33,6 +33,7 @@ fn is_cubic_within(c: Cubic, limit: f32) -> bool
         & is_point_within(c.p3, limit)
 }
 
+// Whether it passes refusal 9.
 pub fn is_in_limits(c: Curve) -> bool
     ensures { result ≡ in_limits c }
 {
@@ -42,15 +43,4 @@ pub fn is_in_limits(c: Curve) -> bool
         & (0.0 <= c.umin)
         & (c.umin < c.umax)
         & (c.umax <= 1.0)
-}
-
-// Whether a slice is a curve within the limits: what passes refusal 9.
-pub fn is_curve(s: &[f32]) -> bool
-    ensures { result ≡ is_curve s.now }
-{
-    if s.len() == FLOATS {
-        is_in_limits(curve_from(s))
-    } else {
-        false
-    }
 }

@@ -2,7 +2,7 @@
 // names (specs/Layout has them for the definitions).
 ghost use Rattle.std.specs.Prelude.{◌≡◌, ◌≤◌};
 ghost use Rattle.curve.specs.Layout.{axis_from, cubic_from, curve_from, curve_floats};
-ghost use Rattle.curve.specs.Curve.{coordinate_of};
+ghost use Rattle.curve.specs.Curve.{is_curve, coordinate_of};
 
 use crate::curve::{Curve, is_in_limits};
 use bezier::{Axis, Cubic, POINTS, part, points_by};
@@ -13,23 +13,23 @@ use std::marker::Model;
 pub const FLOATS: usize = 16;
 
 // The segment's control points, three floats each.
-pub const P0: usize = 0;
+const P0: usize = 0;
 
-pub const P1: usize = 3;
+const P1: usize = 3;
 
-pub const P2: usize = 6;
+const P2: usize = 6;
 
-pub const P3: usize = 9;
+const P3: usize = 9;
 
 // The widths at the segment's ends.
-pub const WIDTH0: usize = 12;
+const WIDTH0: usize = 12;
 
-pub const WIDTH1: usize = 13;
+const WIDTH1: usize = 13;
 
 // The part of the segment that is the curve.
-pub const UMIN: usize = 14;
+const UMIN: usize = 14;
 
-pub const UMAX: usize = 15;
+const UMAX: usize = 15;
 
 // A coordinate of the segment's control points: 0 is x, 1 is y, 2 is z, and 3 is what comes behind each point, for the
 // place that nothing asks for.
@@ -80,22 +80,16 @@ fn curve_in(floats: &[f32; FLOATS]) -> Curve
     }
 }
 
-pub fn curve_floats(c: Curve) -> [f32; FLOATS]
-    ensures { result ≡ curve_floats c }
-{
-    [
-        c.cp.p0.x, c.cp.p0.y, c.cp.p0.z, c.cp.p1.x, c.cp.p1.y, c.cp.p1.z, c.cp.p2.x, c.cp.p2.y, c
-            .cp
-            .p2
-            .z, c.cp.p3.x, c.cp.p3.y, c.cp.p3.z, c.width0, c.width1, c.umin, c.umax,
-    ]
-}
-
+/// The floats of a curve.
+#[tactic(auto, unfolding(crate::specs::Layout::curve_floats))]
 impl From<Curve> for [f32; FLOATS] {
-    ghost from_gives = { λ c a. a ≡ curve_floats c };
+    ghost from_gives = { λ c floats. floats ≡ curve_floats c };
 
     fn from(c: Curve) -> [f32; FLOATS] {
-        curve_floats(c)
+        [
+            c.cp.p0.x, c.cp.p0.y, c.cp.p0.z, c.cp.p1.x, c.cp.p1.y, c.cp.p1.z, c.cp.p2.x, c.cp.p2.y,
+            c.cp.p2.z, c.cp.p3.x, c.cp.p3.y, c.cp.p3.z, c.width0, c.width1, c.umin, c.umax,
+        ]
     }
 }
 
@@ -213,4 +207,12 @@ impl<'a> TryFrom<&'a [f32]> for CurveRef<'a> {
             Err(_) => Err(Refusal::Curve),
         }
     }
+}
+
+/// Whether a slice is a curve within the limits: what passes refusal 9.
+#[tactic(auto, unfolding(crate::specs::Curve::lent_refusals, limits::specs::Refused::first_of))]
+pub fn is_curve(s: &[f32]) -> bool
+    ensures { result ≡ is_curve s.now }
+{
+    CurveRef::try_from(s).is_ok()
 }
