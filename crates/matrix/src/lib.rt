@@ -1,4 +1,5 @@
 // `Matrix4x4` of pbrt-rust, src/core/transform.rs: a struct of rows for callers. Its inverse is worked out on sixteen floats, in the crate `inverse`.
+// An array of arrays would be no plainer: each place that names an entry, in code and definitions, would owe that it is within it.
 #![tactic(auto, unfolding(crate::specs::Matrix::identity, crate::specs::Matrix::flat, crate::specs::Matrix::row_from, crate::specs::Matrix::matrix_from))]
 
 ghost use Rattle.std.specs.Prelude.{◌≡◌, ◌+◌, ◌≤◌, length};
