@@ -1,14 +1,15 @@
--- Rows cut from two lists: a row written behind them, one taken out; the first that passes a test. For any row, of k and m elements. Assumes nothing.
+-- Rows cut from two lists: a row written behind them, one taken out. For any row, of k and m elements. Assumes nothing.
 use mathlib.Core.Path.{◌≡◌, refl, sym, ap, ap₂, ◌∙◌, subst}
-use mathlib.Core.Bool.{Bool, true, false, cond}
+use mathlib.Core.Bool.{Bool, true, false, not, cond}
 use mathlib.Core.List.{List, [], ◌∷◌, ◌++◌, append_assoc}
 use Prim.Native.Nat.{ℕ, zero, suc, ◌+◌, ◌-◌, ◌*◌, ◌≤◌, ◌<◌}
-use native.Mathlib.Nat.{add_comm, add_assoc, zero-add, zero-mul, suc-mul, le_of_suc-le-suc, not-suc-le-zero, suc-sub-suc, sub-zero}
+use native.Mathlib.Nat.{add_comm, add_assoc, zero-add, zero-mul, suc-add, suc-mul, le_of_suc-le-suc, not-suc-le-zero, suc-sub-suc, sub-zero}
 use native.Mathlib.Numerals.{add-one}
 use native.Mathlib.Omega.{arith}
 use lib.ListN.{length, get_or, take, drop, length-drop}
 use lib.Seq.{length-take-le, take-add, drop-drop, take_at, drop_at}
-use Rattle.arrays.specs.Rows.{rows, place, first_at, drop_first}
+use Rattle.std.specs.List.{position_or_len}
+use Rattle.arrays.specs.Rows.{rows, drop_first}
 use Rattle.limits.specs.List.{over}
 use Rattle.arrays.proofs.Moved.{part}
 
@@ -18,14 +19,17 @@ without p [] = []
 without zero (a ∷ l) = l
 without (suc p) (a ∷ l) = a ∷ without p l
 
-pub without_place : {A : Type 0} (t : A → Bool) (l : List A) → without (place t l) l ≡ drop_first t l
-unfolding without place drop_first
-without_place t [] = refl
-without_place t (a ∷ l) = go (t a) (without_place t l)
+pub without_position : {A : Type 0} (t : A → Bool) (l : List A) → without (position_or_len t l) l ≡ drop_first t l
+unfolding without drop_first
+without_position t [] = refl
+without_position t (a ∷ l) = go (t a) (without_position t l)
   where
-    go : (b : Bool) → without (place t l) l ≡ drop_first t l → without (cond b 0 (suc (place t l))) (a ∷ l) ≡ cond b l (a ∷ drop_first t l)
+    one : (n : ℕ) → 1 + n ≡ suc n
+    one n = suc-add zero n ∙ ap suc (zero-add n)
+
+    go : (b : Bool) → without (position_or_len t l) l ≡ drop_first t l → without (cond (not b) (1 + position_or_len t l) 0) (a ∷ l) ≡ cond b l (a ∷ drop_first t l)
     go true h = refl
-    go false h = ap (λ r. a ∷ r) h
+    go false h = ap (λ (n : ℕ). without n (a ∷ l)) (one (position_or_len t l)) ∙ ap (λ r. a ∷ r) h
 
 -- ---- one list
 
@@ -160,11 +164,3 @@ module _ {A B C : Type 0} (row : List A → List B → C) (k m : ℕ) where
   get_d_rows zero i f w d l = absurd (not-suc-le-zero l)
   get_d_rows (suc n) zero f w d l = sym (row_first f w)
   get_d_rows (suc n) (suc i) f w d l = get_d_rows n i (drop k f) (drop m w) d (le_of_suc-le-suc l) ∙ sym (row_suc f w i)
-
-  -- a test that is known of each row by its number
-  pub place-rows : (t : C → Bool) (u : ℕ → Bool) (n : ℕ) (f : List A) (w : List B) → ((i : ℕ) → t (row_at f w i) ≡ u i) → place t (cut n f w) ≡ first_at u n
-  unfolding rows place first_at
-  place-rows t u zero f w h = refl
-  place-rows t u (suc n) f w h =
-      ap₂ (λ b x. cond b 0 (suc x)) (sym (ap t (row_first f w)) ∙ h 0)
-      (place-rows t (λ i. u (suc i)) n (drop k f) (drop m w) (λ i. sym (ap t (row_suc f w i)) ∙ h (suc i)))

@@ -1,3 +1,2 @@
 pub mod Cut
 pub mod Moved
-pub mod Search
