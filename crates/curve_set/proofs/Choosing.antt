@@ -1,45 +1,72 @@
 -- The loop that chooses the nearest anew: what it holds after i turns. Assumes nothing.
-use mathlib.Core.Path.{◌≡◌, refl, sym, ap₂}
+use mathlib.Core.Path.{◌≡◌, refl}
 use mathlib.Core.Bool.{Bool, true, false, cond}
 use mathlib.Core.List.{List}
-use mathlib.Core.Option.{Option, none, some}
-use Prim.Native.Nat.{ℕ, suc, ◌+◌}
+use mathlib.Core.Option as math
+use Prim.Native.Nat.{ℕ, ◌+◌, ◌<◌}
 use native.Mathlib.Numerals.{add-one}
-use native.Mathlib.Omega.{arith}
-use borrow.Author.Tests.{ne_eqb}
 use lib.Ieee.{Float, lt}
+use lib.ListN.{length}
+use Rattle.std.specs.Prelude.{Option, Some, None, IfSome, option_map}
 use Rattle.bisection.specs.Below.{better, best_below}
 use Rattle.nearest.specs.Nearest.{is_hit, distance_in}
 use Rattle.curve_set.specs.Layout.{Kept}
-use Rattle.curve_set.specs.Best.{answer_at, word_of, takes}
+use Rattle.curve_set.specs.Best.{answer_at, place_word, word_of, best_of, best_word, nearer}
+
+-- a place below n stays one
+pub nearer_within : (n : ℕ) (best : Option (ℕ × Float)) (p : ℕ) (d : Float) → IfSome best (λ x. x.0 < n) → p < n → IfSome (nearer best p d) (λ x. x.0 < n)
+nearer_within n None p d h l = l
+nearer_within n (Some best) p d h l = go (lt d best.1)
+  where
+    go : (b : Bool) → IfSome (cond b (Some (p, d)) (Some best)) (λ x. x.0 < n)
+    go true = l
+    go false = h
+
+pub place_within : (n : ℕ) (place : Option ℕ) (best : Option (ℕ × Float)) → place ≡ option_map (λ x. x.0) best → IfSome best (λ x. x.0 < n) → IfSome place (λ p. p < n)
+place_within n place None e h = rw e tt
+place_within n place (Some best) e h = rw e h
 
 module _ (s : List Kept) where
-  abbrev pub nearer : ℕ → ℕ → Bool
-  nearer j i = lt (distance_in (answer_at s j)) (distance_in (answer_at s i))
+  abbrev pub beats : ℕ → ℕ → Bool
+  beats j i = lt (distance_in (answer_at s j)) (distance_in (answer_at s i))
 
   abbrev pub hits : ℕ → Bool
   hits k = is_hit (answer_at s k)
 
-  -- the place q, counted from 1, and the distance t are those of the best so far
-  abbrev pub Holds : ℕ → Float → Option ℕ → Type 0
-  Holds q t none = q ≡ 0
-  Holds q t (some k) = (q ≡ suc k) × (t ≡ distance_in (answer_at s k))
+  -- a place with its distance
+  abbrev pub at_distance : math.Option ℕ → Option (ℕ × Float)
+  at_distance math.none = None
+  at_distance (math.some k) = Some (k, distance_in (answer_at s k))
 
-  pub holds_word : (q : ℕ) (t : Float) (o : Option ℕ) → Holds q t o → q ≡ word_of o
-  holds_word q t none h = h
-  holds_word q t (some k) h = h.0
+  -- the best of the first n with its distance
+  abbrev pub best_so_far : ℕ → Option (ℕ × Float)
+  best_so_far n = at_distance (best_below beats n hits)
 
-  -- a turn
-  pub holds_next : (n q : ℕ) (d t : Float) (hit b : Bool) → hit ≡ hits n → (hit ≡ true → d ≡ distance_in (answer_at s n)) → b ≡ takes hit d q t
-      → Holds q t (best_below nearer n hits) → Holds (cond b (n + 1) q) (cond b d t) (best_below nearer (suc n) hits)
+  pub best-none : None ≡ best_so_far 0
   unfolding best_below
-  holds_next n q d t hit b same at e h = rw (← same, e) (go hit (best_below nearer n hits) at h)
-    where
-      chosen : (k : ℕ) (c : Bool) → d ≡ distance_in (answer_at s n) → t ≡ distance_in (answer_at s k) → q ≡ suc k → nearer n k ≡ c → Holds (cond c (n + 1) q) (cond c d t) (better nearer true n (some k))
-      chosen k true en ek eq c = rw c (add-one n, en)
-      chosen k false en ek eq c = rw c (eq, ek)
+  best-none = refl
 
-      go : (x : Bool) (o : Option ℕ) → (x ≡ true → d ≡ distance_in (answer_at s n)) → Holds q t o → Holds (cond (takes x d q t) (n + 1) q) (cond (takes x d q t) d t) (better nearer x n o)
-      go false o at h = h
-      go true none at h = rw h (add-one n, at refl)
-      go true (some k) at h = rw (ne_eqb q 0 (λ z. absurd (omega (arith, z, h.0)))) (chosen k (lt d t) (at refl) h.1 h.0 (ap₂ lt (sym (at refl)) (sym h.1)))
+  pub best_miss : (n : ℕ) → hits n ≡ false → best_so_far (n + 1) ≡ best_so_far n
+  unfolding best_below
+  best_miss n h = rw (add-one n, h)
+
+  pub best_hit : (n : ℕ) → hits n ≡ true → best_so_far (n + 1) ≡ nearer (best_so_far n) n (distance_in (answer_at s n))
+  unfolding best_below
+  best_hit n h = rw (add-one n, h) (go (best_below beats n hits))
+    where
+      chosen : (k : ℕ) (c : Bool) → beats n k ≡ c → at_distance (better beats true n (math.some k)) ≡ cond c (Some (n, distance_in (answer_at s n))) (Some (k, distance_in (answer_at s k)))
+      chosen k true e = rw e
+      chosen k false e = rw e
+
+      go : (o : math.Option ℕ) → at_distance (better beats true n o) ≡ nearer (at_distance o) n (distance_in (answer_at s n))
+      go math.none = refl
+      go (math.some k) = chosen k (beats n k) refl
+
+  -- the word of the place that is left
+  pub best_word_is : (place : Option ℕ) (best : Option (ℕ × Float)) (n : ℕ) → n ≡ length s → best ≡ best_so_far n → place ≡ option_map (λ x. x.0) best → place_word place ≡ best_word s
+  unfolding best_word best_of
+  best_word_is place best n all h e = rw (e, h, all) (go (best_below beats (length s) hits))
+    where
+      go : (o : math.Option ℕ) → place_word (option_map (λ x. x.0) (at_distance o)) ≡ word_of o
+      go math.none = refl
+      go (math.some k) = refl

@@ -2,16 +2,15 @@
 use mathlib.Core.Path.{◌≡◌, refl, sym, ap, ap₂, ◌∙◌}
 use mathlib.Core.Bool.{Bool, true, false, cond}
 use mathlib.Core.List.{List, [], ◌∷◌, ◌++◌, append_assoc}
-use mathlib.Core.Option.{none, some}
 use Prim.Native.Nat.{ℕ, ◌+◌, ◌-◌, ◌*◌, ◌≤◌, ◌<◌}
-use native.Mathlib.Nat.{le_antisymm}
 use native.Mathlib.Numerals.{add-one}
 use native.Mathlib.Omega.{arith}
-use borrow.Author.Tests.{ltb-false}
+use mir.Val.{bool_byte}
 use lib.Dec.{ltb}
 use lib.Ieee.{Float}
 use lib.ListN.{length, get_or, take, drop, replicate, length-append, length-drop}
 use lib.Seq.{take_at, drop_at, length-take-le, drop-drop}
+use Rattle.std.specs.Prelude.{Some, None, is_some, min, slice_set}
 use Rattle.float.specs.Arith.{0f}
 use Rattle.geometry.specs.declared.ray.Ray.{Ray}
 use Rattle.geometry.specs.Point.{point_from}
@@ -28,10 +27,12 @@ use Rattle.arrays.specs.Rows.{rows}
 use Rattle.arrays.proofs.Cut.{without, over_add, rows_append, rows_without}
 use Rattle.arrays.proofs.Moved.{part, length_part}
 use Rattle.curve_set.specs.Kept.{row_of, this_rule}
-use Rattle.curve_set.specs.Layout.{size, set_floats, set_words, head_floats, head_words, Head, head_by, head_from, head_of, floats_opened, words_opened, count_of, counted, curve_room, row_floats, row_words, Answer, Kept, kind_of, answer_floats, answer_in, row_in, set_of, floats_put, words_put, floats_without, words_without}
+use Rattle.curve_set.specs.Layout.{size, set_floats, set_words, head_floats, head_words, head_by, head_from, head_of, floats_opened, words_opened, count_of, counted, curve_room, row_floats, row_words, Answer, Kept, kind_of, answer_floats, answer_in, row_in, set_of, floats_put, words_put, floats_without, words_without}
+use Rattle.curve_set.specs.declared.layout.Head.{Head}
 use Rattle.curve_set.specs.Best.{best_word, refreshed}
-use Rattle.curve_set.specs.Calls.{lent, Sized}
-use Rattle.curve_set.proofs.View.{count-le}
+use Rattle.curve_set.specs.Lent.{lent}
+use Rattle.curve_set.specs.Calls.{Sized}
+use Rattle.curve_set.proofs.Read.{count-le}
 
 -- ---- behind a head of k
 
@@ -48,6 +49,22 @@ module _ {A : Type 0} (l : List A) (k a : ℕ) (s : List A) (h : k ≤ length l)
 pub head_put : (f : List Float) (a b : Matrix4x4) (r : Ray) → head_floats ≤ length f → over (over (over f 0 (flat a)) 16 (flat b)) 32 (flat_ray r) ≡ over f 0 ((flat a ++ flat b) ++ flat_ray r)
 unfolding flat flat_ray
 head_put f a b r h = ap (λ l. over l 32 (flat_ray r)) (over-append f 0 (flat a) (flat b) (omega arith)) ∙ over-append f 0 (flat a ++ flat b) (flat_ray r) (omega arith)
+
+-- the count is written
+pub set-count : (w : List ℕ) (n : ℕ) → 0 < length w → slice_set w 0 n ≡ counted w n
+unfolding counted over
+set-count [] n h = absurd (omega arith)
+set-count (a ∷ w) n h = refl
+
+-- the kind of an answer as a word
+pub kind_word : (a : Answer) → bool_byte (is_some a) ≡ kind_of a
+kind_word None = refl
+kind_word (Some h) = refl
+
+-- a flag as a word
+pub flag_word : (b : Bool) → bool_byte b ≡ cond b 1 0
+flag_word true = refl
+flag_word false = refl
 
 -- a row's floats
 pub row_put_lem : (f c z r : List Float) (at : ℕ) → length c ≡ 16 → length z ≡ 3 → at + 19 ≤ length f → over (over (over f at c) (at + 16) z) (at + 19) r ≡ over f at ((c ++ z) ++ r)
@@ -67,8 +84,8 @@ room_length : (c : List Float) → length c ≡ floats → length (c ++ replicat
 room_length c e = length-append c _ ∙ ap (λ (k : ℕ). k + 3) e
 
 answer-length : (a : Answer) → length (answer_floats a) ≡ record_size
-answer-length none = refl
-answer-length (some h) = length-record h
+answer-length None = refl
+answer-length (Some h) = length-record h
 
 row_length : (c : List Float) (a : Answer) → length c ≡ floats → length (row_put c a) ≡ row_floats
 row_length c a e = length-append (c ++ replicate (curve_room - floats) 0f) (answer_floats a) ∙ ap₂ (λ (m n : ℕ). m + n) (room_length c e) (answer-length a)
@@ -82,17 +99,13 @@ row_back n c a e =
     ∙ ap (row_of n this_rule c) (back a)
   where
     back : (a : Answer) → answer_in (kind_of a) (answer_floats a) ≡ a
-    back none = refl
-    back (some h) = ap some (record_back h)
+    back None = refl
+    back (Some h) = ap Some (record_back h)
 
 -- ---- the head's words
 
-count_is : (n : ℕ) → n ≤ size → cond (ltb n size) n size ≡ n
-count_is n h = go (ltb n size) (ltb-false n size)
-  where
-    go : (b : Bool) → (b ≡ false → size ≤ n) → cond b n size ≡ n
-    go true g = refl
-    go false g = le_antisymm (g refl) h
+count_is : (n : ℕ) → n ≤ size → min n size ≡ n
+count_is n h = omega arith
 
 -- three words are there
 data Three : List ℕ → Type 0 where

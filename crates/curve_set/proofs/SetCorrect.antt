@@ -2,28 +2,32 @@
 use mathlib.Core.Path.{◌≡◌, refl, sym, ap, ap₂, ◌∙◌, subst}
 use mathlib.Core.Bool.{Bool, true, false, cond}
 use mathlib.Core.List.{List, [], ◌∷◌, ◌++◌, map}
-use Prim.Native.Nat.{ℕ, zero, suc, ◌+◌, ◌<◌}
+use Prim.Native.Nat.{ℕ, ◌+◌, ◌<◌}
 use native.Mathlib.Omega.{arith}
 use borrow.Author.Tests.{ltb-true, ltb-false}
 use lib.Ieee.{Float}
 use lib.ListN.{length, get_or}
-use Rattle.limits.specs.Refusal.{told}
+use Rattle.std.specs.Prelude.{Option, Some, None, Result, Ok, Err}
+use Rattle.std.specs.List.{position_or_len}
+use Rattle.limits.specs.declared.refusal.Refusal.{Refusal}
+use Rattle.limits.specs.declared.refusal.Refusal.TheVariants.{NumberMissing}
+use Rattle.limits.specs.Refused.{told, told_by}
 use Rattle.bisection.specs.Below.{best_below}
 use Rattle.curve.specs.Layout.{floats}
-use Rattle.arrays.specs.Rows.{place, drop_first}
-use Rattle.arrays.proofs.Cut.{without_place}
-use Rattle.curve_set.specs.Kept.{Result, refused, kept, row_of, this_rule, either, named, has, Change, add, remove, adding, after, is_taken, changed, present}
-use Rattle.curve_set.specs.Layout.{size, Head, head_of, floats_opened, words_opened, count_of, counted, Answer, Kept, kind_of, answer_floats, set_of, floats_put, words_put, floats_without, words_without}
+use Rattle.arrays.specs.Rows.{drop_first}
+use Rattle.arrays.proofs.Cut.{without_position}
+use Rattle.curve_set.specs.Kept.{row_of, this_rule, either, named, has, Change, add, remove, adding, after, is_taken, changed, present}
+use Rattle.curve_set.specs.Layout.{size, head_of, floats_opened, words_opened, count_of, counted, Answer, Kept, kind_of, answer_floats, set_of, floats_put, words_put, floats_without, words_without}
+use Rattle.curve_set.specs.declared.layout.Head.{Head}
 use Rattle.curve_set.specs.Best.{best_of, best_word, refreshed}
-use Rattle.curve_set.specs.Set.{open_number, open_answer, open_floats, open_words, own_of, is_bad, add_told, add_result, add_answer, add_floats, add_words, remove_answer, remove_floats, remove_words, shown_at, nearest_in}
-use Rattle.curve_set.specs.Calls.{Lent, lent, Sized, view_of, opened, answer_to, changed_by, changes, answers, is_done, accepted, present_after, nearest_afresh, as_nearest}
-use Rattle.curve_set.specs.declared.calls.Changed.{Changed}
-use Rattle.curve_set.specs.declared.calls.Changed.TheVariants.{Done, Refused}
+use Rattle.curve_set.specs.Set.{open_refusal, open_answer, open_floats, open_words, own_of, is_bad, add_told, add_result, add_answer, add_floats, add_words, remove_answer, remove_floats, remove_words, shown_at, nearest_in}
+use Rattle.curve_set.specs.Calls.{Sized, view_of, opened, answer_to, changed_by, changes, answers, is_done, accepted, present_after, nearest_afresh, as_nearest}
+use Rattle.curve_set.specs.Lent.{Lent, lent}
 use Rattle.curve_set.proofs.Afresh.{Worked, none, drop_none, added, change_worked, worked_present, worked_one}
 use Rattle.curve_set.proofs.Edit.{refreshed-view, set-opened, edit_append, edit_remove}
 use Rattle.curve_set.proofs.OverList.{long, best_shows}
-use Rattle.curve_set.proofs.Told.{not_full, passes-add}
-use Rattle.curve_set.proofs.View.{length-set}
+use Rattle.curve_set.proofs.Told.{done, not_full, passes-add}
+use Rattle.curve_set.proofs.Read.{length-set}
 
 abbrev pub head_in : Lent → Head
 head_in l = head_of l.floats l.words
@@ -45,50 +49,49 @@ settled F W s l h =
     (v.0 ∙ h.0, v.1 ∙ h.1, record { floats = h.2.floats; words = v.3 ∙ h.2.words }, λ _. v.2 ∙ ap best_word (sym v.0))
 
 module _ (f : List Float) (w : List ℕ) (z : Sized (lent f w)) where
-  abbrev own : List Float → Result Answer
+  abbrev own : List Float → Result Answer Refusal
   own = own_of (head_of f w)
 
   add-view : (n : ℕ) (c : List Float) → After (after size is_bad own (add n c) (set_of f w)) (lent f w) (lent (add_floats f w n c) (add_words f w n c))
   unfolding add_floats add_words add_result after
   add-view n c = go (adding size is_bad own (set_of f w) n c) refl
     where
-      room : (a : Answer) → adding size is_bad own (set_of f w) n c ≡ kept a → (count_of w < size) × (length c ≡ floats)
+      room : (a : Answer) → adding size is_bad own (set_of f w) n c ≡ Ok a → (count_of w < size) × (length c ≡ floats)
       room a e =
           let t = (added size is_bad own (set_of f w) n c a e).0 in
           (subst (λ (k : ℕ). k < size) (length-set f w) (not_full (is_bad c) (has (named n) (set_of f w)) (length (set_of f w)) t), long (head_of f w) c (passes-add (is_bad c) _ _ t).0)
 
-      go : (y : Result Answer) → adding size is_bad own (set_of f w) n c ≡ y
+      go : (y : Result Answer Refusal) → adding size is_bad own (set_of f w) n c ≡ y
           → After (either (set_of f w) (λ a. set_of f w ++ row_of n this_rule c a ∷ []) y) (lent f w)
           (lent (either f (λ a. floats_put f (count_of w) c (answer_floats a)) y) (either w (λ a. refreshed (floats_put f (count_of w) c (answer_floats a)) (counted (words_put w (count_of w) n (kind_of a)) (count_of w + 1))) y))
-      go (refused k) e = (refl, refl, z, λ h. h)
-      go (kept a) e = let r = room a e in settled _ _ _ _ (edit_append f w z n c a r.0 r.1)
+      go (Err r) e = (refl, refl, z, λ h. h)
+      go (Ok a) e = let r = room a e in settled _ _ _ _ (edit_append f w z n c a r.0 r.1)
 
   remove-view : (n : ℕ) → After (after size is_bad own (remove n) (set_of f w)) (lent f w) (lent (remove_floats f w n) (remove_words f w n))
   unfolding remove_floats remove_words after
   remove-view n = go (has (named n) (set_of f w)) refl
     where
       at : ℕ
-      at = place (named n) (set_of f w)
+      at = position_or_len (named n) (set_of f w)
 
       go : (b : Bool) → has (named n) (set_of f w) ≡ b
           → After (drop_first (named n) (set_of f w)) (lent f w) (lent (cond b (floats_without f at (count_of w)) f) (cond b (refreshed (floats_without f at (count_of w)) (words_without w at (count_of w))) w))
       go true e =
           let i = edit_remove f w z at (subst (λ (k : ℕ). at < k) (length-set f w) (ltb-true _ _ e)) in
-          settled _ _ _ _ (i.0 ∙ without_place (named n) (set_of f w), i.1, i.2)
+          settled _ _ _ _ (i.0 ∙ without_position (named n) (set_of f w), i.1, i.2)
       go false e = (sym (drop_none (named n) (set_of f w) (ltb-false _ _ e)), refl, z, λ h. h)
 
 pub change_view : (c : Change (List Float)) (l : Lent) → Sized l → After (after size is_bad (own_of (head_in l)) c (view_of l)) l (changed_by c l)
-unfolding changed_by
 change_view (add n p) l z = add-view l.floats l.words z n p
 change_view (remove n) l z = remove-view l.floats l.words z n
 
 -- an answer depends on the head and on what is held alone
-answer_by : Head → Change (List Float) → List Kept → Changed
+answer_by : Head → Change (List Float) → List Kept → Result (Unit {0}) Refusal
 answer_by h (add n c) s = add_told (adding size is_bad (own_of h) s n c)
-answer_by h (remove n) s = cond (has (named n) s) Done (Refused 25)
+answer_by h (remove n) s = cond (has (named n) s) done (Err NumberMissing)
 
 answer_is : (c : Change (List Float)) (l : Lent) → answer_to c l ≡ answer_by (head_in l) c (view_of l)
-unfolding answer_to add_answer add_result remove_answer answer_by
+unfolding add_answer add_result remove_answer answer_by
 answer_is (add n c) l = refl
 answer_is (remove n) l = refl
 
@@ -97,46 +100,46 @@ taken_is : (h : Head) (c : Change (List Float)) (s : List Kept) → is_done (ans
 unfolding answer_by is_taken
 taken_is h (add n c) s = go (adding size is_bad (own_of h) s n c)
   where
-    go : (x : Result Answer) → is_done (add_told x) ≡ either false (λ a. true) x
-    go (refused k) = refl
-    go (kept a) = refl
+    go : (x : Result Answer Refusal) → is_done (add_told x) ≡ either false (λ a. true) x
+    go (Err r) = refl
+    go (Ok a) = refl
 taken_is h (remove n) s = go (has (named n) s)
   where
-    go : (b : Bool) → is_done (cond b Done (Refused 25)) ≡ b
+    go : (b : Bool) → is_done (cond b done (Err NumberMissing)) ≡ b
     go true = refl
     go false = refl
 
 -- ---- a refused call changes nothing, whatever the lists hold
 
-pub refused_stays : (c : Change (List Float)) (l : Lent) (k : ℕ) → answer_to c l ≡ Refused k → changed_by c l ≡ l
-unfolding answer_to changed_by add_answer add_floats add_words remove_answer remove_floats remove_words
+pub refused_stays : (c : Change (List Float)) (l : Lent) (k : Refusal) → answer_to c l ≡ Err k → changed_by c l ≡ l
+unfolding add_answer add_floats add_words remove_answer remove_floats remove_words
 refused_stays (add n c) l k e = go (add_result l.floats l.words n c) e
   where
-    go : (x : Result Answer) → add_told x ≡ Refused k
+    go : (x : Result Answer Refusal) → add_told x ≡ Err k
         → lent (either l.floats (λ a. floats_put l.floats (count_of l.words) c (answer_floats a)) x) (either l.words (λ a. refreshed (floats_put l.floats (count_of l.words) c (answer_floats a)) (counted (words_put l.words (count_of l.words) n (kind_of a)) (count_of l.words + 1))) x) ≡ l
-    go (refused m) e = refl
-    go (kept a) e = let no : ◌≡◌ {A = ℕ} 0 1 = cc in absurd (omega arith)
+    go (Err r) e = refl
+    go (Ok a) e = absurd (cc)
 refused_stays (remove n) l k e = go (has (named n) (view_of l)) e
   where
     at : ℕ
-    at = place (named n) (view_of l)
+    at = position_or_len (named n) (view_of l)
 
-    go : (b : Bool) → cond b Done (Refused 25) ≡ Refused k
+    go : (b : Bool) → cond b done (Err NumberMissing) ≡ Err k
         → lent (cond b (floats_without l.floats at (count_of l.words)) l.floats) (cond b (refreshed (floats_without l.floats at (count_of l.words)) (words_without l.words at (count_of l.words))) l.words) ≡ l
-    go true e = let no : ◌≡◌ {A = ℕ} 0 1 = cc in absurd (omega arith)
+    go true e = absurd (cc)
     go false e = refl
 
-pub refused_open_stays : (h : Head) (l : Lent) (k : ℕ) → open_answer h ≡ Refused k → opened h l ≡ l
-unfolding open_answer opened open_floats open_words
-refused_open_stays h l k e = go (open_number h) e
+pub refused_open_stays : (h : Head) (l : Lent) (k : Refusal) → open_answer h ≡ Err k → opened h l ≡ l
+unfolding open_answer open_floats open_words
+refused_open_stays h l k e = go (open_refusal h) e
   where
-    go : (m : ℕ) → told Refused m Done ≡ Refused k → lent (told (λ _. l.floats) m (floats_opened l.floats h)) (told (λ _. l.words) m (words_opened l.words h)) ≡ l
-    go zero e = let no : ◌≡◌ {A = ℕ} 0 1 = cc in absurd (omega arith)
-    go (suc m) e = refl
+    go : (o : Option Refusal) → told o done ≡ Err k → lent (told_by (λ _. l.floats) o (floats_opened l.floats h)) (told_by (λ _. l.words) o (words_opened l.words h)) ≡ l
+    go None e = absurd (cc)
+    go (Some r) e = refl
 
--- ---- lists of calls, under a head that passes 10 and 11
+-- ---- lists of calls, under a head that an open does not refuse
 
-module _ (h : Head) (ok : open_number h ≡ 0) where
+module _ (h : Head) (ok : open_refusal h ≡ None) where
   -- l holds the curves p, each with its own answer, and shows the nearest
   abbrev Keeps : Lent → List (ℕ × List Float) → Type 0
   Keeps l p = Worked is_bad (own_of h) (view_of l) p × (head_in l ≡ h) × Sized l × Fresh l
@@ -162,14 +165,14 @@ module _ (h : Head) (ok : open_number h ≡ 0) where
       go false rest = refl
 
   opened_is : (l : Lent) → opened h l ≡ lent (floats_opened l.floats h) (words_opened l.words h)
-  unfolding opened open_floats open_words
+  unfolding open_floats open_words
   opened_is l = rw ok
 
   opened_keeps : (l : Lent) → Sized l → Keeps (opened h l) []
   unfolding Fresh best_word best_of best_below
   opened_keeps l z =
       let o = set-opened l.floats l.words z h in
-      rw (opened_is l) (subst (λ s. Worked is_bad (own_of h) s []) (sym o.0) none, o.1, o.3, o.2 ∙ sym (ap best_word o.0))
+      subst (λ x. Keeps x []) (sym (opened_is l)) (subst (λ s. Worked is_bad (own_of h) s []) (sym o.0) none, o.1, o.3, o.2 ∙ sym (ap best_word o.0))
 
   module _ (l : Lent) (z : Sized l) (cs : List (Change (List Float))) where
     kept-after : Keeps (changes cs (opened h l)) (present_after cs (opened h l))
@@ -212,7 +215,7 @@ alike_changes (c ∷ cs) l m a =
     (ap₂ (λ x xs. x ∷ xs) next.0 rest.0, rest.1)
 
 -- No answer depends on it.
-pub former_content : (h : Head) → open_number h ≡ 0 → (l m : Lent) → Sized l → Sized m → (cs : List (Change (List Float)))
+pub former_content : (h : Head) → open_refusal h ≡ None → (l m : Lent) → Sized l → Sized m → (cs : List (Change (List Float)))
     → let k = changes cs (opened h l) in
     let j = changes cs (opened h m) in
     (answers cs (opened h l) ≡ answers cs (opened h m)) × (nearest_in k.floats k.words ≡ nearest_in j.floats j.words)

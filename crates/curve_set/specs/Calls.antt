@@ -1,23 +1,13 @@
 -- Lists of calls on the two lists of a set, what is present after them, and the nearest worked out afresh. Definitions only.
-use Rattle.std.specs.Prelude.{Bool, true, false, cond, List, [], ◌∷◌, ◌++◌, ◌≡◌, ℕ, Float, length, get_or}
-use Rattle.nearest.specs.declared.NearestIntersection.{NearestIntersection}
-use Rattle.nearest.specs.declared.NearestIntersection.TheVariants as near
+use Rattle.std.specs.Prelude.{Bool, true, false, cond, List, [], ◌∷◌, ◌++◌, ◌≡◌, ℕ, Float, length, get_or, Result, Ok, Err, option_map}
+use Rattle.limits.specs.declared.refusal.Refusal.{Refusal}
 use Rattle.nearest.specs.Nearest.{nearest_of}
 use Rattle.curve_set.specs.Kept.{Change, add, remove, present}
-use Rattle.curve_set.specs.Layout.{set_floats, set_words, Head, Kept, set_of}
-use Rattle.curve_set.specs.Set.{open_floats, open_words, add_answer, add_floats, add_words, remove_answer, remove_floats, remove_words}
-use Rattle.curve_set.specs.declared.calls.Changed.{Changed}
-use Rattle.curve_set.specs.declared.calls.Changed.TheVariants.{Done, Refused}
-use Rattle.curve_set.specs.declared.calls.SetIntersection.{SetIntersection}
-use Rattle.curve_set.specs.declared.calls.SetIntersection.TheVariants.{Hit, Miss}
-
--- the two lists that are lent
-pub record Lent : Type 0 where
-  pub floats : List Float
-  pub words : List ℕ
-
-abbrev pub lent : List Float → List ℕ → Lent
-lent f w = record { floats = f; words = w }
+use Rattle.curve_set.specs.Layout.{set_floats, set_words, Kept, set_of}
+use Rattle.curve_set.specs.declared.layout.Head.{Head}
+use Rattle.curve_set.specs.Best.{Nearest}
+use Rattle.curve_set.specs.Set.{Shown, open_floats, open_words, add_answer, add_floats, add_words, remove_answer, remove_floats, remove_words}
+use Rattle.curve_set.specs.Lent.{Lent, lent}
 
 -- they are as long as their types say
 pub record Sized (l : Lent) : Type 0 where
@@ -29,14 +19,14 @@ view_of l = set_of l.floats l.words
 
 -- ---- the calls
 
-unfoldable pub opened : Head → Lent → Lent
+abbrev pub opened : Head → Lent → Lent
 opened h l = lent (open_floats l.floats h) (open_words l.words h)
 
-unfoldable pub answer_to : Change (List Float) → Lent → Changed
+abbrev pub answer_to : Change (List Float) → Lent → Result (Unit {0}) Refusal
 answer_to (add n c) l = add_answer l.floats l.words n c
 answer_to (remove n) l = remove_answer l.floats l.words n
 
-unfoldable pub changed_by : Change (List Float) → Lent → Lent
+abbrev pub changed_by : Change (List Float) → Lent → Lent
 changed_by (add n c) l = lent (add_floats l.floats l.words n c) (add_words l.floats l.words n c)
 changed_by (remove n) l = lent (remove_floats l.floats l.words n) (remove_words l.floats l.words n)
 
@@ -46,13 +36,13 @@ changes [] l = l
 changes (c ∷ cs) l = changes cs (changed_by c l)
 
 -- what each answers
-unfoldable pub answers : List (Change (List Float)) → Lent → List Changed
+unfoldable pub answers : List (Change (List Float)) → Lent → List (Result (Unit {0}) Refusal)
 answers [] l = []
 answers (c ∷ cs) l = answer_to c l ∷ answers cs (changed_by c l)
 
-abbrev pub is_done : Changed → Bool
-is_done Done = true
-is_done (Refused k) = false
+abbrev pub is_done : Result (Unit {0}) Refusal → Bool
+is_done (Ok done) = true
+is_done (Err reason) = false
 
 -- those of them that are not refused
 unfoldable pub accepted : List (Change (List Float)) → Lent → List (Change (List Float))
@@ -71,16 +61,14 @@ list_of [] = []
 list_of (x ∷ l) = x.1 ++ list_of l
 
 -- a curve's number in place of its place in the list
-abbrev pub numbered : List (ℕ × List Float) → NearestIntersection → NearestIntersection
-numbered l (near.Hit h k) = near.Hit h (get_or l k (0, [])).0
-numbered l near.Miss = near.Miss
-numbered l (near.Refused number) = near.Refused number
+abbrev pub numbered : List (ℕ × List Float) → Nearest → Nearest
+numbered l (Ok hit) = Ok (option_map (λ x. (x.0, (get_or l x.1 (0, [])).0)) hit)
+numbered l (Err reason) = Err reason
 
 -- `nearest` over the curves that are present, each under its number
-unfoldable pub nearest_afresh : Head → List (ℕ × List Float) → NearestIntersection
+unfoldable pub nearest_afresh : Head → List (ℕ × List Float) → Nearest
 nearest_afresh h l = numbered l (nearest_of (list_of l) h.object_to_world h.world_to_object h.reverse h.ray)
 
 -- the answer of a set, as one of `nearest`: it is no refusal
-abbrev pub as_nearest : SetIntersection → NearestIntersection
-as_nearest (Hit h n) = near.Hit h n
-as_nearest Miss = near.Miss
+abbrev pub as_nearest : Shown → Nearest
+as_nearest shown = Ok shown

@@ -1,14 +1,12 @@
 -- A kept set, for any piece and answer: what a call makes of its rows. Definitions only.
-use Rattle.std.specs.Prelude.{Bool, true, false, List, [], ◌∷◌, ◌++◌, ℕ, eqb, leb, ltb, length}
-use Rattle.limits.specs.Refusal.{Table, first_of, told}
-use Rattle.arrays.specs.Rows.{place, drop_first}
+use Rattle.std.specs.Prelude.{Bool, true, false, List, [], ◌∷◌, ◌++◌, ℕ, eqb, leb, ltb, length, Option, Result, Ok, Err}
+use Rattle.limits.specs.declared.refusal.Refusal.{Refusal}
+use Rattle.limits.specs.declared.refusal.Refusal.TheVariants.{Curve, NumberPresent, SetFull}
+use Rattle.limits.specs.Refused.{Table, first_of, told}
+use Rattle.std.specs.List.{position_or_len}
+use Rattle.arrays.specs.Rows.{drop_first}
 
--- a piece's own answer, or the number by which it is refused
-pub data Result (A : Type 0) : Type 0 where
-  refused : ℕ → Result A
-  kept : A → Result A
-
--- what is kept of a piece. The mark is that of the depth rule by which its answer was found (02: P7).
+-- what is kept of a piece. The mark is that of the depth rule by which its answer was found.
 pub record Row (P A : Type 0) : Type 0 where
   pub number : ℕ
   pub mark : ℕ
@@ -22,21 +20,26 @@ row_of n m p a = record { number = n; mark = m; piece = p; answer = a }
 abbrev pub this_rule : ℕ
 this_rule = 0
 
--- by cases of a result
-abbrev pub either : {A B : Type 0} → B → (A → B) → Result A → B
-either b f (refused k) = b
-either b f (kept a) = f a
+-- what an answer makes, or b where there is a refusal in its place
+abbrev pub either : {A B : Type 0} → B → (A → B) → Result A Refusal → B
+either b f (Err reason) = b
+either b f (Ok a) = f a
 
--- 9, 24, 23: no piece within the limits, its number is present, the set is full
+-- no piece within the limits, its number is present, the set is full
 unfoldable pub add_refusals : Bool → Bool → Bool → Table
-add_refusals bad there full = (bad, 9) ∷ (there, 24) ∷ (full, 23) ∷ []
+add_refusals bad there full =
+    (bad, Curve) ∷ (there, NumberPresent) ∷ (full, SetFull) ∷ []
 
 abbrev pub named : {P A : Type 0} → ℕ → Row P A → Bool
 named n r = eqb r.number n
 
 -- one of them passes the test
 abbrev pub has : {A : Type 0} → (A → Bool) → List A → Bool
-has t s = ltb (place t s) (length s)
+has t s = ltb (position_or_len t s) (length s)
+
+-- what an add is refused for, whatever the piece's own answer is; `bad p` holds where p is no piece within the limits
+abbrev pub early : {P A : Type 0} → ℕ → (P → Bool) → List (Row P A) → ℕ → P → Option Refusal
+early size bad s n p = first_of (add_refusals (bad p) (has (named n) s) (leb size (length s)))
 
 -- ---- a change: a piece is added under a number, or the one with a number is removed
 
@@ -44,11 +47,11 @@ pub data Change (P : Type 0) : Type 0 where
   add : ℕ → P → Change P
   remove : ℕ → Change P
 
--- At most `size` pieces. `bad p` is refusal 9, and `own p` the answer of p alone.
-module _ {P A : Type 0} (size : ℕ) (bad : P → Bool) (own : P → Result A) where
+-- At most `size` pieces. `own p` is the answer of p alone.
+module _ {P A : Type 0} (size : ℕ) (bad : P → Bool) (own : P → Result A Refusal) where
   -- what an add comes to: the piece's own answer, or a refusal
-  unfoldable pub adding : List (Row P A) → ℕ → P → Result A
-  adding s n p = told refused (first_of (add_refusals (bad p) (has (named n) s) (leb size (length s)))) (own p)
+  unfoldable pub adding : List (Row P A) → ℕ → P → Result A Refusal
+  adding s n p = told (early size bad s n p) (own p)
 
   -- the rows afterwards
   unfoldable pub after : Change P → List (Row P A) → List (Row P A)

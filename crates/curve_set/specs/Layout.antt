@@ -1,6 +1,5 @@
 -- The two lists that a set is lent as: which of their elements is what, and the set that they hold, whatever they are. Definitions only.
-use Rattle.std.specs.Prelude.{Bool, cond, List, [], ◌∷◌, ◌++◌, ℕ, ◌+◌, ◌-◌, ◌*◌, eqb, ltb, Float, get_or, take, drop, replicate}
-use Rattle.std.proofs.Math.Option.{Option, none, some}
+use Rattle.std.specs.Prelude.{Bool, cond, List, [], ◌∷◌, ◌++◌, ℕ, ◌+◌, ◌-◌, ◌*◌, min, eqb, ltb, Float, get_or, take, drop, replicate, Option, Some, None}
 use Rattle.float.specs.Arith.{0f}
 use Rattle.geometry.specs.declared.ray.Ray.{Ray}
 use Rattle.geometry.specs.Ray.{ray_from, flat_ray}
@@ -12,6 +11,7 @@ use Rattle.interaction.specs.declared.SurfaceInteraction.{SurfaceInteraction}
 use Rattle.interaction.specs.Floats.{record_size, record_floats, record_from}
 use Rattle.arrays.specs.Rows.{rows}
 use Rattle.curve_set.specs.Kept.{Row, row_of, this_rule}
+use Rattle.curve_set.specs.declared.layout.Head.{Head}
 
 -- how many curves at most
 abbrev pub size : ℕ
@@ -32,13 +32,6 @@ head_floats = 40
 abbrev pub head_words : ℕ
 head_words = 3
 
--- what is the same for all curves of a set
-pub record Head : Type 0 where
-  pub object_to_world : Matrix4x4
-  pub world_to_object : Matrix4x4
-  pub reverse : Bool
-  pub ray : Ray
-
 abbrev pub head_by : Matrix4x4 → Matrix4x4 → Bool → Ray → Head
 head_by o2w w2o reverse ray = record { object_to_world = o2w; world_to_object = w2o; reverse = reverse; ray = ray }
 
@@ -57,12 +50,12 @@ words_opened w h = over w 0 (0 ∷ 0 ∷ cond h.reverse 1 0 ∷ [])
 
 -- a count above 64 reads as 64
 unfoldable pub count_of : List ℕ → ℕ
-count_of w = cond (ltb (get_or w 0 0) size) (get_or w 0 0) size
+count_of w = min (get_or w 0 0) size
 
 unfoldable pub counted : List ℕ → ℕ → List ℕ
 counted w n = over w 0 (n ∷ [])
 
--- ---- a row: a curve with room for 19 floats (02: P6, P12) and its record; its number, its mark and its kind
+-- ---- a row: a curve with room for 19 floats and its record; its number, its mark and its kind
 
 abbrev pub curve_room : ℕ
 curve_room = 19
@@ -82,16 +75,16 @@ Kept = Row (List Float) Answer
 
 -- 1 is a hit
 abbrev pub kind_of : Answer → ℕ
-kind_of none = 0
-kind_of (some h) = 1
+kind_of None = 0
+kind_of (Some h) = 1
 
 abbrev pub answer_floats : Answer → List Float
-answer_floats none = replicate record_size 0f
-answer_floats (some h) = record_floats h
+answer_floats None = replicate record_size 0f
+answer_floats (Some h) = record_floats h
 
 -- back: any other kind is a miss
 abbrev pub answer_in : ℕ → List Float → Answer
-answer_in k l = cond (eqb k 1) (some (record_from l)) none
+answer_in k l = cond (eqb k 1) (Some (record_from l)) None
 
 unfoldable pub row_in : List Float → List ℕ → Kept
 row_in f w = row_of (get_or w 0 0) (get_or w 1 0) (take floats f) (answer_in (get_or w 2 0) (drop curve_room f))

@@ -1,6 +1,16 @@
 // The layout of the two arrays that a set is lent as. specs/Layout has it for the definitions.
-ghost use Rattle.std.specs.Prelude.{◌≡◌};
-ghost use Rattle.curve_set.specs.Layout.{count_of};
+
+use geometry::Ray;
+use matrix::Matrix4x4;
+
+/// What is the same for all curves of a set.
+#[derive(Clone, Copy)]
+pub struct Head {
+    pub object_to_world: Matrix4x4,
+    pub world_to_object: Matrix4x4,
+    pub reverse: bool,
+    pub ray: Ray,
+}
 
 // How many curves a set has at most.
 pub const CURVES: usize = 64;
@@ -14,8 +24,8 @@ pub const RAY: usize = 32;
 
 pub const HEAD_FLOATS: usize = 40;
 
-// Then, for each curve in the order of adding, its floats, with room for as many as they will be (02: P6, P12), and the
-// record of its nearest crossing.
+// Then, for each curve in the order of adding, its floats, with room for as many as they will be when curves have more, and
+// the record of its nearest crossing.
 pub const CURVE_ROOM: usize = 19;
 
 pub const SPARE: usize = 3;
@@ -43,23 +53,7 @@ pub const ROW_WORDS: usize = 3;
 
 pub const SET_WORDS: usize = 195;
 
-// What the mark and the kind say. Any other kind is a miss too.
+// What the mark and the kind say. A miss is written as 0, and any other kind but a hit's is one too.
 pub const THIS_RULE: u32 = 0;
 
-pub const IS_MISS: u32 = 0;
-
 pub const IS_HIT: u32 = 1;
-
-pub fn wide(x: u32) -> usize
-    ensures { result ≡ x }
-{
-    x as usize
-}
-
-// A count above 64 reads as 64.
-pub fn count(words: &[u32; SET_WORDS]) -> usize
-    ensures { result ≡ count_of words.now }
-{
-    let n = wide(words[COUNT]);
-    if n < CURVES { n } else { CURVES }
-}
