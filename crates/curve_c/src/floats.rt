@@ -7,6 +7,7 @@ use geometry::Bounds3f;
 // How many: the lower corner, then the upper.
 pub const BOUNDS_FLOATS: usize = 6;
 
+#[tactic(auto, unfolding(crate::specs::Floats::bounds_floats))]
 pub fn bounds_floats(b: Bounds3f) -> [f32; BOUNDS_FLOATS]
     ensures { result ≡ bounds_floats b }
 {

@@ -5,6 +5,7 @@
 
 mod floats;
 mod lists;
+mod outputs;
 mod rays;
 mod sets;
 mod shapes;

@@ -1,34 +1,14 @@
 // Where a ray first meets a list of curves.
 ghost use Rattle.std.specs.Prelude.{◌≡◌};
-ghost use Rattle.nearest.specs.Answer.{nearest_number};
-ghost use Rattle.curve_c.specs.Calls.{nearest_by, nearest_after, piece_after};
+ghost use Rattle.curve_c.specs.Calls.{nearest_by, nearest_number, nearest_after, piece_after};
 
+use crate::outputs::put_hit;
 use geometry::{RAY_FLOATS, ray_from};
-use interaction::{RECORD_FLOATS, record_floats};
-use matrix::{MATRIX_FLOATS, matrix_from};
-use nearest::NearestIntersection;
+use interaction::RECORD_FLOATS;
+use matrix::{MATRIX_FLOATS, Matrix4x4};
 
 // Answers 0 with a hit and 1 with a miss, or its refusal.
-fn put_nearest(
-    met: NearestIntersection,
-    record: &mut [f32; RECORD_FLOATS],
-    piece: &mut usize,
-) -> u32
-    ensures value { result ≡ nearest_number met }
-    ensures record_after { «record».new ≡ nearest_after met «record».old }
-    ensures piece_after { piece.new ≡ piece_after met piece.old }
-{
-    match met {
-        NearestIntersection::Hit(h, k) => {
-            *record = record_floats(h);
-            *piece = k;
-            0
-        }
-        NearestIntersection::Miss => 1,
-        NearestIntersection::Refused(number) => number as u32,
-    }
-}
-
+#[tactic(auto, unfolding(crate::specs::Calls::nearest_by))]
 #[unsafe(no_mangle)]
 pub extern "C" fn curve_nearest(
     list: &[f32],
@@ -45,10 +25,13 @@ pub extern "C" fn curve_nearest(
 {
     let met = nearest::nearest(
         list,
-        matrix_from(object_to_world, 0),
-        matrix_from(world_to_object, 0),
+        Matrix4x4::from(object_to_world),
+        Matrix4x4::from(world_to_object),
         0 < reverse,
         ray_from(ray, 0),
     );
-    put_nearest(met, record, piece)
+    match met {
+        Ok(hit) => put_hit(hit, record, piece),
+        Err(refusal) => refusal.number(),
+    }
 }

@@ -1,24 +1,16 @@
 // A kept set of curves under one ray, in two arrays that the caller lends.
 ghost use Rattle.std.specs.Prelude.{◌≡◌};
-ghost use Rattle.curve_set.specs.Answer.{changed_number, set_number};
+ghost use Rattle.limits.specs.Refused.{status_of};
 ghost use Rattle.curve_set.specs.Set.{open_answer, open_floats, open_words, add_answer, add_floats, add_words, remove_answer, remove_floats, remove_words, nearest_in};
-ghost use Rattle.curve_c.specs.Calls.{head_given, set_record_after, set_curve_after};
+ghost use Rattle.curve_c.specs.Calls.{head_given, hit_number, hit_record, hit_place};
 
-use curve_set::{Changed, SET_FLOATS, SET_WORDS, SetIntersection};
+use crate::outputs::{put_hit, status};
+use curve_set::{Head, SET_FLOATS, SET_WORDS, Set, SetMut};
 use geometry::{RAY_FLOATS, ray_from};
-use interaction::{RECORD_FLOATS, record_floats};
-use matrix::{MATRIX_FLOATS, matrix_from};
+use interaction::RECORD_FLOATS;
+use matrix::{MATRIX_FLOATS, Matrix4x4};
 
-// 0, or the refusal's number.
-fn number_of(c: Changed) -> u32
-    ensures { result ≡ changed_number c }
-{
-    match c {
-        Changed::Done => 0,
-        Changed::Refused(number) => number as u32,
-    }
-}
-
+#[tactic(auto, unfolding(crate::specs::Calls::head_given))]
 #[unsafe(no_mangle)]
 pub extern "C" fn curve_set_open(
     floats: &mut [f32; SET_FLOATS],
@@ -28,19 +20,17 @@ pub extern "C" fn curve_set_open(
     reverse: u32,
     ray: &[f32; RAY_FLOATS],
 ) -> u32
-    ensures value { result ≡ changed_number (open_answer (head_given object_to_world.now world_to_object.now reverse ray.now)) }
+    ensures value { result ≡ status_of (open_answer (head_given object_to_world.now world_to_object.now reverse ray.now)) }
     ensures floats_after { floats.new ≡ open_floats floats.old (head_given object_to_world.now world_to_object.now reverse ray.now) }
     ensures words_after { words.new ≡ open_words words.old (head_given object_to_world.now world_to_object.now reverse ray.now) }
 {
-    let opened = curve_set::open(
-        floats,
-        words,
-        matrix_from(object_to_world, 0),
-        matrix_from(world_to_object, 0),
-        0 < reverse,
-        ray_from(ray, 0),
-    );
-    number_of(opened)
+    let head = Head {
+        object_to_world: Matrix4x4::from(object_to_world),
+        world_to_object: Matrix4x4::from(world_to_object),
+        reverse: 0 < reverse,
+        ray: ray_from(ray, 0),
+    };
+    status(SetMut { floats, words }.open(head))
 }
 
 #[unsafe(no_mangle)]
@@ -50,11 +40,11 @@ pub extern "C" fn curve_set_add(
     number: u32,
     piece: &[f32],
 ) -> u32
-    ensures value { result ≡ changed_number (add_answer floats.old words.old number piece.now) }
+    ensures value { result ≡ status_of (add_answer floats.old words.old number piece.now) }
     ensures floats_after { floats.new ≡ add_floats floats.old words.old number piece.now }
     ensures words_after { words.new ≡ add_words floats.old words.old number piece.now }
 {
-    number_of(curve_set::add(floats, words, number, piece))
+    status(SetMut { floats, words }.add(number, piece))
 }
 
 #[unsafe(no_mangle)]
@@ -63,11 +53,11 @@ pub extern "C" fn curve_set_remove(
     words: &mut [u32; SET_WORDS],
     number: u32,
 ) -> u32
-    ensures value { result ≡ changed_number (remove_answer floats.old words.old number) }
+    ensures value { result ≡ status_of (remove_answer floats.old words.old number) }
     ensures floats_after { floats.new ≡ remove_floats floats.old words.old number }
     ensures words_after { words.new ≡ remove_words floats.old words.old number }
 {
-    number_of(curve_set::remove(floats, words, number))
+    status(SetMut { floats, words }.remove(number))
 }
 
 #[unsafe(no_mangle)]
@@ -77,16 +67,9 @@ pub extern "C" fn curve_set_nearest(
     record: &mut [f32; RECORD_FLOATS],
     number: &mut u32,
 ) -> u32
-    ensures value { result ≡ set_number (nearest_in floats.now words.now) }
-    ensures record_after { «record».new ≡ set_record_after (nearest_in floats.now words.now) «record».old }
-    ensures number_after { number.new ≡ set_curve_after (nearest_in floats.now words.now) number.old }
+    ensures value { result ≡ hit_number (nearest_in floats.now words.now) }
+    ensures record_after { «record».new ≡ hit_record (nearest_in floats.now words.now) «record».old }
+    ensures number_after { number.new ≡ hit_place (nearest_in floats.now words.now) number.old }
 {
-    match curve_set::nearest(floats, words) {
-        SetIntersection::Hit(h, n) => {
-            *record = record_floats(h);
-            *number = n;
-            0
-        }
-        SetIntersection::Miss => 1,
-    }
+    put_hit(Set { floats, words }.nearest(), record, number)
 }

@@ -1,38 +1,33 @@
 // The belt sheet.
-ghost use Rattle.std.specs.Prelude.{◌≡◌, cond, length};
+ghost use Rattle.std.specs.Prelude.{◌≡◌, length};
 ghost use Rattle.sheet.specs.Sheet.{sheet_of, list_of, ReplyWithin};
 ghost use Rattle.sheet.specs.Answer.{reply_number};
 ghost use Rattle.curve_c.specs.Calls.{beams_after, counts_after};
 
-use sheet::{RAYS_FLOATS, Reply};
-
-pub fn number_of(flag: bool) -> u32
-    ensures { result ≡ cond flag 1 0 }
-{
-    if flag { 1 } else { 0 }
-}
+use sheet::{RAYS_FLOATS, Sheet, SheetRefusal};
 
 // Answers 0 with what a sheet holds, or its refusal with the line.
 fn put_reply(
-    reply: Reply,
-    rays: [f32; RAYS_FLOATS],
+    reply: Result<Sheet, SheetRefusal>,
     beams: &mut [f32; RAYS_FLOATS],
     out: &mut [u32; 4],
 ) -> u32
     requires { ReplyWithin reply }
     ensures value { result ≡ reply_number reply }
-    ensures beams_after { beams.new ≡ beams_after reply rays beams.old }
+    ensures beams_after { beams.new ≡ beams_after reply beams.old }
     ensures out_after { out.new ≡ counts_after reply out.old }
 {
     match reply {
-        Reply::Accepted(pieces, reverse, n) => {
+        Ok(sheet) => {
+            let reverse = u32::from(sheet.reverse);
+            let rays = sheet.rays;
             *beams = rays;
-            *out = [pieces, number_of(reverse), n as u32, 0];
+            *out = [sheet.pieces, reverse, sheet.ray_count as u32, 0];
             0
         }
-        Reply::Refused(number, line) => {
-            out[3] = line as u32;
-            number as u32
+        Err(wrong) => {
+            out[3] = wrong.line as u32;
+            wrong.refusal.number()
         }
     }
 }
@@ -44,13 +39,11 @@ pub extern "C" fn curve_sheet(
     beams: &mut [f32; RAYS_FLOATS],
     out: &mut [u32; 4],
 ) -> u32
-    ensures value { result ≡ reply_number (sheet_of bytes.now (length list.old)).reply }
+    ensures value { result ≡ reply_number (sheet_of bytes.now (length list.old)) }
     ensures list_after { list.new ≡ list_of bytes.now list.old }
-    ensures beams_after { beams.new ≡ beams_after (sheet_of bytes.now (length list.old)).reply (sheet_of bytes.now (length list.old)).rays beams.old }
-    ensures out_after { out.new ≡ counts_after (sheet_of bytes.now (length list.old)).reply out.old }
+    ensures beams_after { beams.new ≡ beams_after (sheet_of bytes.now (length list.old)) beams.old }
+    ensures out_after { out.new ≡ counts_after (sheet_of bytes.now (length list.old)) out.old }
 {
-    let read = sheet::read_sheet(bytes, list);
-    let reply = read.reply;
-    let rays = read.rays;
-    put_reply(reply, rays, beams, out)
+    let reply = sheet::read_sheet(bytes, list);
+    put_reply(reply, beams, out)
 }
