@@ -8,7 +8,6 @@ use native.Mathlib.Omega.{arith}
 use borrow.Author.Tests.{eq-eqb, ne_eqb}
 use lib.Dec.{eqb, lit<}
 use lib.Pow.{pow_mono}
-use Rattle.create.specs.Basis.{stride_of}
 use Rattle.curve.specs.Layout.{floats}
 use Rattle.create.specs.Create.{segment_count, part_count}
 
@@ -33,12 +32,6 @@ product_lt h g = lt_of_le_of_lt (mul-le-mul h g) (lit< tt)
 abbrev is_degree : ℕ → Bool
 is_degree d = eqb d 2 || eqb d 3
 
-pub degree-low : (d : ℕ) → d < 2 → is_degree d ≡ false
-degree-low d h = rw (ne_eqb d 2 (omega arith), ne_eqb d 3 (omega arith))
-
-pub degree-high : (d : ℕ) → 3 < d → is_degree d ≡ false
-degree-high d h = rw (ne_eqb d 2 (omega arith), ne_eqb d 3 (omega arith))
-
 pub degree_right : (d : ℕ) → 2 ≤ d → d ≤ 3 → is_degree d ≡ true
 degree_right d l h = elim (eq-or-lt_of_le l) [
   | inl e ↦ rw (eq-eqb d 2 (sym e))
@@ -47,7 +40,7 @@ degree_right d l h = elim (eq-or-lt_of_le l) [
 
 -- ---- the places of a segment, in a loop over n of them
 
-pub next : (i k : ℕ) → (i + 1) * k ≡ i * k + k
+next : (i k : ℕ) → (i + 1) * k ≡ i * k + k
 next i k = add-mul i 1 k ∙ ap (λ (x : ℕ). i * k + x) (one-mul k)
 
 one_more : (i n k : ℕ) → i < n → i * k + k ≤ n * k
@@ -63,12 +56,3 @@ within-points i n k x length h l = omega (arith, one_more i n k h)
 -- what it writes is within the list
 pub within-list : (i n parts length : ℕ) → i < n → floats * (n * parts) ≤ length → i * (parts * floats) + parts * floats ≤ length
 within-list i n parts length h l = le_trans (one_more i n (parts * floats) h) (subst (λ (x : ℕ). x ≤ length) (mul_comm floats (n * parts) ∙ mul_assoc n parts floats) l)
-
--- the next one starts no later than it ends
-pub stride-le : (degree basis : ℕ) → stride_of degree basis ≤ 3 * degree + 3
-unfolding stride_of
-stride-le degree basis = go (eqb basis 0)
-  where
-    go : (b : Bool) → cond b (3 * degree) 3 ≤ 3 * degree + 3
-    go true = omega arith
-    go false = omega arith

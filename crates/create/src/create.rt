@@ -14,8 +14,9 @@ use curve::{Curve, FLOATS};
 use geometry::lerp;
 use limits::Refusal;
 
-// What a curve is made of, beside its points: basis 0 is Bezier, 1 is B-spline, and type 0 is flat.
-#[derive(Clone, Copy)]
+// What a curve is made of, beside its points, as C gives it: basis 0 is Bezier, 1 is B-spline, and type 0 is flat. The
+// numbers are kept, since which of them is refused first is told; what they mean is a `Shape`.
+#[derive(Clone, Copy, Debug, PartialEq)]
 pub struct Params {
     pub degree: u32,
     pub basis: u32,
@@ -26,7 +27,7 @@ pub struct Params {
 }
 
 // A segment with the widths at its ends, and how many curves it is split into.
-#[derive(Clone, Copy)]
+#[derive(Clone, Copy, Debug, PartialEq)]
 struct Segment {
     cp: Cubic,
     width0: f32,
@@ -113,7 +114,8 @@ fn put_segments(list: &mut [f32], points: &[f32], shape: Shape, n: u16)
     }
 }
 
-// Points are three floats each, and the list takes FLOATS floats a curve. Answers how many curves were written.
+// Points are three floats each, and the list takes FLOATS floats a curve. Answers how many curves were written. The
+// parameters are the Rust's, one by one as its callers and C have them.
 pub fn create_curve_shape(
     points: &[f32],
     degree: u32,
