@@ -21,7 +21,11 @@ use Rattle.walk.specs.Leaves.{subcurve_at, open_at, leaf_at}
 use Rattle.walk.specs.Rule.{passes, has_no_frame, distance_of, counts, ends, beats, is_better}
 use Rattle.walk.specs.Walk.{end_by, best_by, leaf_by}
 use Rattle.walk.proofs.Rules.{nan-below}
-use Rattle.intersect.proofs.ReplySays.{neither}
+
+-- what is not so with a, where a is
+pub neither : (a b : Bool) → a && b ≡ false → a ≡ true → b ≡ false
+neither true b e h = e
+neither false b e h = absurd (false≢true h)
 
 -- ---- a leaf
 
@@ -102,7 +106,7 @@ module _ (c : Curve) (v : View) (s : Subcurve) (d : ℕ) where
   abbrev pub Says : Leaf → Type 0
   Says (Passes x f) = (i : ℕ) × (leaf i ≡ Passes x f) × Best i
   Says Fails = (j : ℕ) → j < 2 ^ d → is_open_at j ≡ true → counts Nearest (leaf j) ≡ false
-  Says (NoFrame number t) = (i : ℕ) × (i < 2 ^ d) × (is_open_at i ≡ true) × (leaf i ≡ NoFrame number t)
+  Says (NoFrame reason t) = (i : ℕ) × (i < 2 ^ d) × (is_open_at i ≡ true) × (leaf i ≡ NoFrame reason t)
 
   pub leaf_says : Says (leaf_by Nearest c v s d)
   unfolding leaf_by ends
@@ -111,12 +115,12 @@ module _ (c : Curve) (v : View) (s : Subcurve) (d : ℕ) where
       ending : (i : ℕ) (l : Leaf) → i < 2 ^ d → is_open_at i ≡ true → leaf i ≡ l → ends Nearest l ≡ true → Says l
       ending i (Passes x f) less o same e = absurd (false≢true e)
       ending i Fails less o same e = absurd (false≢true e)
-      ending i (NoFrame number t) less o same e = (i, less, o, same)
+      ending i (NoFrame reason t) less o same e = (i, less, o, same)
 
       deciding : (i : ℕ) (l : Leaf) → leaf i ≡ l → HasFrame l → Best i → Says l
       deciding i (Passes x f) e h b = (i, e, b)
       deciding i Fails e h b = absurd (false≢true (ap passes h.2))
-      deciding i (NoFrame number t) e h b = absurd (true≢false (ap has_no_frame h.2))
+      deciding i (NoFrame reason t) e h b = absurd (true≢false (ap has_no_frame h.2))
 
       go : (o : Option ℕ) → IsFirst (2 ^ d) open_ends o → (p : Option ℕ) → IsBest nearer open_counts (2 ^ d) p → Says (at_or leaf Fails (or_else o p))
       go (some i) h p h' = let here = both (is_open_at i) (ends Nearest (leaf i)) h.1 in ending i (leaf i) h.0 here.0 refl here.1

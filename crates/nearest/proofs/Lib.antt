@@ -3,5 +3,5 @@ pub mod FirstRefusal
 pub mod NearestCorrect
 pub mod OneMore
 pub mod SameRecord
-mod Keeping
+mod Curves
 mod LeafSays

@@ -1,24 +1,25 @@
 -- Every answer of `nearest` is right (`Correct`, in `specs/Correct.antt`). Assumes nothing.
-use mathlib.Core.Bool.{Bool, true, false, not, cond, false≢true, true≢false}
+use mathlib.Core.Bool.{Bool, true, false, false≢true, true≢false}
 use mathlib.Core.List.{List}
 use mathlib.Core.Logic.{◌⊎◌, inl, inr, ⊎_elim}
 use mathlib.Core.Option.{Option, none, some}
 use mathlib.Core.Path.{◌≡◌, refl, sym, ap, subst, ◌∙◌}
-use Prim.Native.Nat.{ℕ, zero, suc, ◌/◌, ◌<◌}
-use native.Mathlib.Omega.{arith}
+use Prim.Native.Nat.{ℕ, ◌/◌, ◌<◌}
 use lib.Ieee.{Float, is_nan, lt}
 use lib.ListN.{length}
 use Rattle.float.proofs.Order.{lt_trans, not_lt_trans, lt_asym, lt_itself}
 use Rattle.geometry.specs.declared.ray.Ray.{Ray}
 use Rattle.matrix.specs.declared.Matrix4x4.{Matrix4x4}
-use Rattle.limits.specs.Refusal.{first_of, told}
+use Rattle.std.specs.Prelude.{Some, None, Result, Ok, Err}
+use Rattle.std.specs.Prelude as std
+use Rattle.limits.specs.declared.refusal.Refusal.{Refusal}
+use Rattle.limits.specs.Refused.{first_of, told}
 use Rattle.bisection.specs.Below.{or_else, at_or, first_below, best_below}
 use Rattle.bisection.proofs.Below.{IsFirst, IsBest, cases, first_is, best_is}
 use Rattle.curve.specs.declared.curve.Curve.{Curve}
-use Rattle.curve.specs.Curve.{is_curve}
+use Rattle.curve.specs.Curve.{lent_refusals}
 use Rattle.curve.specs.Layout.{floats, curve_from, curve_at}
 use Rattle.frame.specs.declared.frame.Framed.{Framed}
-use Rattle.frame.specs.declared.frame.Framed.TheVariants as framed
 use Rattle.frame.specs.Frame.{aimed_of, with_aim, framed_curve}
 use Rattle.overlap.specs.Depth.{depth_of}
 use Rattle.overlap.specs.Subcurve.{whole_of}
@@ -32,11 +33,9 @@ use Rattle.walk.specs.declared.rule.Rule.TheVariants as rule
 use Rattle.walk.specs.Leaves.{leaf_at}
 use Rattle.walk.specs.Rule.{passes, distance_of, counts}
 use Rattle.walk.specs.Walk.{leaf_by}
-use Rattle.nearest.specs.declared.NearestIntersection.{NearestIntersection}
-use Rattle.nearest.specs.declared.NearestIntersection.TheVariants.{Hit, Miss, Refused}
 use Rattle.nearest.specs.Correct.{OpenLeaf, IsRecord, Before, framed_at, LeafIn, NearestIs, refusals, Correct}
-use Rattle.nearest.specs.Nearest.{is_hit, is_refused, distance_in, among, leaf_answer, framed_answer, answer_of, answer_at, nearest_aimed, nearest_refusals, nearest_of}
-use Rattle.nearest.proofs.FirstRefusal.{number_of_first, refusal_in, refusal-first, Numbered, nearest-numbered}
+use Rattle.nearest.specs.Nearest.{Nearest, is_hit, is_refused, distance_in, among, leaf_answer, framed_answer, answer_of, answer_at, nearest_aimed, nearest_refusals, nearest_of}
+use Rattle.nearest.proofs.FirstRefusal.{refusal_in, refusal-first}
 use Rattle.nearest.proofs.LeafSays.{counts-number, uncounted_not_below, Says, leaf_says}
 
 -- whether a leaf that passes counts
@@ -59,7 +58,7 @@ farther a b c n h k = go (lt a b) refl
 
 module _ (c : Curve) (flip : Bool) (k : ℕ) where
   -- a hit is on the leaf i: no other lies nearer, and each before it that counts lies farther
-  pub record CurveHit (f : Framed) (h : SurfaceInteraction) : Type 0 where
+  pub record CurveHit (f : Result Framed Refusal) (h : SurfaceInteraction) : Type 0 where
     pub i : ℕ
     pub x : Crossing
     pub frame : Frame
@@ -70,19 +69,18 @@ module _ (c : Curve) (flip : Bool) (k : ℕ) where
     pub none_nearer : (j : ℕ) (l : Leaf) → OpenLeaf c f j l → counts rule.Nearest l ≡ true → lt (distance_of l) x.t ≡ false
     pub earlier_farther : (j : ℕ) (l : Leaf) → OpenLeaf c f j l → j < i → counts rule.Nearest l ≡ true → lt x.t (distance_of l) ≡ true
 
-  abbrev CurveSays : Framed → NearestIntersection → Type 0
-  CurveSays f (Hit h n) = (n ≡ k) × CurveHit f h
-  CurveSays f Miss = (j : ℕ) (l : Leaf) → OpenLeaf c f j l → counts rule.Nearest l ≡ false
-  CurveSays f (Refused number) = Unit {0}
+  abbrev CurveSays : Result Framed Refusal → Nearest → Type 0
+  CurveSays f (Ok (Some h)) = (h.1 ≡ k) × CurveHit f h.0
+  CurveSays f (Ok None) = (j : ℕ) (l : Leaf) → OpenLeaf c f j l → counts rule.Nearest l ≡ false
+  CurveSays f (Err reason) = Unit {0}
 
-  curve_says : (f : Framed) → CurveSays f (framed_answer c flip k f)
+  curve_says : (f : Result Framed Refusal) → CurveSays f (framed_answer c flip k f)
   unfolding framed_answer leaf_answer record_of
-  curve_says framed.ZeroWeight = tt
-  curve_says framed.ZeroLength = tt
-  curve_says (framed.Curve ray v cp) = go (leaf_by rule.Nearest c v (whole_of c cp) (depth_of c cp)) (leaf_says c v (whole_of c cp) (depth_of c cp))
+  curve_says (Err reason) = tt
+  curve_says (Ok f) = go (leaf_by rule.Nearest c f.view (whole_of c f.cubic) (depth_of c f.cubic)) (leaf_says c f.view (whole_of c f.cubic) (depth_of c f.cubic))
     where
-      go : (l : Leaf) → Says c v (whole_of c cp) (depth_of c cp) l → CurveSays (framed.Curve ray v cp) (leaf_answer c flip k ray l)
-      go (NoFrame number t) says = tt
+      go : (l : Leaf) → Says c f.view (whole_of c f.cubic) (depth_of c f.cubic) l → CurveSays (Ok f) (leaf_answer c flip k f.ray l)
+      go (NoFrame reason t) says = tt
       go Fails says = λ j l o. rw o.2 at (says j o.0 o.1)
       go (Passes x frame) says =
           let b = says.2 in
@@ -95,7 +93,7 @@ module _ (c : Curve) (flip : Bool) (k : ℕ) where
               leaf = (b.0, b.1, here);
               record_is = refl;
               distance_is = refl;
-              is_number = rw here at (counts-number (leaf_at c v (whole_of c cp) (depth_of c cp) says.0) b.2);
+              is_number = rw here at (counts-number (leaf_at c f.view (whole_of c f.cubic) (depth_of c f.cubic) says.0) b.2);
               none_nearer = λ j l o e. rw (here, o.2) at (b.3 j o.0 o.1 (rw o.2 e));
               earlier_farther = λ j l o less e. rw (here, o.2) at (b.4 j less o.1 (rw o.2 e));
             },
@@ -104,7 +102,7 @@ module _ (c : Curve) (flip : Bool) (k : ℕ) where
 -- ---- the list
 
 module _ (list : List Float) (w2o : Matrix4x4) (r : Ray) (flip : Bool) where
-  abbrev answer : ℕ → NearestIntersection
+  abbrev answer : ℕ → Nearest
   answer = answer_at flip (aimed_of w2o r) list
 
   abbrev curve : ℕ → Curve
@@ -114,13 +112,13 @@ module _ (list : List Float) (w2o : Matrix4x4) (r : Ray) (flip : Bool) where
   n = length list / floats
 
   answer_says : (k : ℕ) → CurveSays (curve k) flip k (framed_at list w2o r k) (answer k)
-  unfolding answer_at answer_of framed_curve first_of
-  answer_says k = go (is_curve (curve_at list k)) (curve_says (curve k) flip k (with_aim (curve k) (aimed_of w2o r)))
+  unfolding answer_at answer_of framed_curve
+  answer_says k = go (first_of (lent_refusals (curve_at list k))) (curve_says (curve k) flip k (with_aim (curve k) (aimed_of w2o r)))
     where
-      go : (b : Bool) → CurveSays (curve k) flip k (with_aim (curve k) (aimed_of w2o r)) (framed_answer (curve k) flip k (with_aim (curve k) (aimed_of w2o r)))
-          → CurveSays (curve k) flip k (with_aim (curve k) (aimed_of w2o r)) (told Refused (cond (not b) 9 0) (framed_answer (curve k) flip k (with_aim (curve k) (aimed_of w2o r))))
-      go true says = says
-      go false says = tt
+      go : (o : std.Option Refusal) → CurveSays (curve k) flip k (with_aim (curve k) (aimed_of w2o r)) (framed_answer (curve k) flip k (with_aim (curve k) (aimed_of w2o r)))
+          → CurveSays (curve k) flip k (with_aim (curve k) (aimed_of w2o r)) (told o (framed_answer (curve k) flip k (with_aim (curve k) (aimed_of w2o r))))
+      go None says = says
+      go (Some reason) says = tt
 
   abbrev nearer : ℕ → ℕ → Bool
   nearer j i = lt (distance_in (answer j)) (distance_in (answer i))
@@ -128,10 +126,10 @@ module _ (list : List Float) (w2o : Matrix4x4) (r : Ray) (flip : Bool) where
   hit_number : (k : ℕ) → is_hit (answer k) ≡ true → is_nan (distance_in (answer k)) ≡ false
   hit_number k = go (answer k) (answer_says k)
     where
-      go : (a : NearestIntersection) → CurveSays (curve k) flip k (framed_at list w2o r k) a → is_hit a ≡ true → is_nan (distance_in a) ≡ false
-      go (Hit h m) says e = rw says.1.distance_is says.1.is_number
-      go Miss says e = absurd (false≢true e)
-      go (Refused number) says e = absurd (false≢true e)
+      go : (a : Nearest) → CurveSays (curve k) flip k (framed_at list w2o r k) a → is_hit a ≡ true → is_nan (distance_in a) ≡ false
+      go (Ok (Some h)) says e = rw says.1.distance_is says.1.is_number
+      go (Ok None) says e = absurd (false≢true e)
+      go (Err reason) says e = absurd (false≢true e)
 
   best : IsBest nearer (λ k. is_hit (answer k)) n (best_below nearer n (λ k. is_hit (answer k)))
   best = best_is nearer (λ k. is_hit (answer k)) (λ a b c p. lt_trans _ _ _) (λ a b c p. not_lt_trans _ _ _ (hit_number b p)) n
@@ -143,12 +141,12 @@ module _ (list : List Float) (w2o : Matrix4x4) (r : Ray) (flip : Bool) where
     counted_hit : (k j : ℕ) (l : Leaf) → k < n → OpenLeaf (curve k) (framed_at list w2o r k) j l → counts rule.Nearest l ≡ true → (is_hit (answer k) ≡ true) × (lt (distance_of l) (distance_in (answer k)) ≡ false)
     counted_hit k j l less o e = go (answer k) (answer_says k) (passed k less)
       where
-        go : (a : NearestIntersection) → CurveSays (curve k) flip k (framed_at list w2o r k) a → is_refused a ≡ false → (is_hit a ≡ true) × (lt (distance_of l) (distance_in a) ≡ false)
-        go (Hit h m) says p = (refl, rw says.1.distance_is (says.1.none_nearer j l o e))
-        go Miss says p = absurd (true≢false (sym e ∙ says j l o))
-        go (Refused number) says p = absurd (true≢false p)
+        go : (a : Nearest) → CurveSays (curve k) flip k (framed_at list w2o r k) a → is_refused a ≡ false → (is_hit a ≡ true) × (lt (distance_of l) (distance_in a) ≡ false)
+        go (Ok (Some h)) says p = (refl, rw says.1.distance_is (says.1.none_nearer j l o e))
+        go (Ok None) says p = absurd (true≢false (sym e ∙ says j l o))
+        go (Err reason) says p = absurd (true≢false p)
 
-    module _ (k : ℕ) (h : SurfaceInteraction) (is-hit : answer k ≡ Hit h k) (chosen : IsBest nearer (λ k. is_hit (answer k)) n (some k)) (hit : CurveHit (curve k) flip k (framed_at list w2o r k) h) where
+    module _ (k : ℕ) (h : SurfaceInteraction) (is-hit : answer k ≡ Ok (Some (h, k))) (chosen : IsBest nearer (λ k. is_hit (answer k)) n (some k)) (hit : CurveHit (curve k) flip k (framed_at list w2o r k) h) where
       at-distance : distance_in (answer k) ≡ hit.x.t
       at-distance = ap distance_in is-hit ∙ hit.distance_is
 
@@ -183,26 +181,25 @@ module _ (list : List Float) (w2o : Matrix4x4) (r : Ray) (flip : Bool) where
       }
 
   -- what the answer of the list says
-  abbrev ListSays : NearestIntersection → Type 0
-  ListSays (Hit h k) = NearestIs list w2o r flip h k
-  ListSays Miss = (k i : ℕ) (l : Leaf) → LeafIn list w2o r k i l → counts rule.Nearest l ≡ false
-  ListSays (Refused number) = Unit {0}
+  abbrev ListSays : Nearest → Type 0
+  ListSays (Ok (Some h)) = NearestIs list w2o r flip h.0 h.1
+  ListSays (Ok None) = (k i : ℕ) (l : Leaf) → LeafIn list w2o r k i l → counts rule.Nearest l ≡ false
+  ListSays (Err reason) = Unit {0}
 
   list_says : ListSays (among answer n)
   unfolding among
   list_says = go (first_below n (λ k. is_refused (answer k))) (first_is n (λ k. is_refused (answer k))) (best_below nearer n (λ k. is_hit (answer k))) best
     where
-      refusing : (a : NearestIntersection) → is_refused a ≡ true → ListSays a
-      refusing (Hit h k) e = absurd (false≢true e)
-      refusing Miss e = absurd (false≢true e)
-      refusing (Refused number) e = tt
+      refusing : (a : Nearest) → is_refused a ≡ true → ListSays a
+      refusing (Ok h) e = absurd (false≢true e)
+      refusing (Err reason) e = tt
 
-      hitting : (k : ℕ) → ((k : ℕ) → k < n → is_refused (answer k) ≡ false) → IsBest nearer (λ k. is_hit (answer k)) n (some k) → (a : NearestIntersection) → answer k ≡ a → CurveSays (curve k) flip k (framed_at list w2o r k) a → is_hit a ≡ true → ListSays a
-      hitting k passed chosen (Hit h m) is says e = subst (λ m. NearestIs list w2o r flip h m) (sym says.0) (nearest_is passed k h (is ∙ ap (Hit h) says.0) chosen says.1)
-      hitting k passed chosen Miss is says e = absurd (false≢true e)
-      hitting k passed chosen (Refused number) is says e = absurd (false≢true e)
+      hitting : (k : ℕ) → ((k : ℕ) → k < n → is_refused (answer k) ≡ false) → IsBest nearer (λ k. is_hit (answer k)) n (some k) → (a : Nearest) → answer k ≡ a → CurveSays (curve k) flip k (framed_at list w2o r k) a → is_hit a ≡ true → ListSays a
+      hitting k passed chosen (Ok (Some h)) is says e = subst (λ m. NearestIs list w2o r flip h.0 m) (sym says.0) (nearest_is passed k h.0 (is ∙ ap (λ m. Ok (Some (h.0, m))) says.0) chosen says.1)
+      hitting k passed chosen (Ok None) is says e = absurd (false≢true e)
+      hitting k passed chosen (Err reason) is says e = absurd (false≢true e)
 
-      go : (o : Option ℕ) → IsFirst n (λ k. is_refused (answer k)) o → (p : Option ℕ) → IsBest nearer (λ k. is_hit (answer k)) n p → ListSays (at_or answer Miss (or_else o p))
+      go : (o : Option ℕ) → IsFirst n (λ k. is_refused (answer k)) o → (p : Option ℕ) → IsBest nearer (λ k. is_hit (answer k)) n p → ListSays (at_or answer (Ok None) (or_else o p))
       go (some k) h p h' = refusing (answer k) h.1
       go none h (some k) h' = hitting k h h' (answer k) refl (answer_says k) h'.1
       go none h none h' = λ k i l at. missing k i l at (counted? l)
@@ -214,39 +211,38 @@ module _ (list : List Float) (w2o : Matrix4x4) (r : Ray) (flip : Bool) where
 -- ---- the call
 
 module _ (list : List Float) (o2w w2o : Matrix4x4) (reverse : Bool) (r : Ray) where
-  abbrev given : NearestIntersection
+  abbrev given : Nearest
   given = nearest_of list o2w w2o reverse r
 
   given_says : ListSays list w2o r (flips_of reverse o2w) given
   unfolding nearest_of nearest_aimed
   given_says = go (first_of (nearest_refusals list o2w w2o r)) (list_says list w2o r (flips_of reverse o2w))
     where
-      go : (m : ℕ) → ListSays list w2o r (flips_of reverse o2w) (among (answer_at (flips_of reverse o2w) (aimed_of w2o r) list) (length list / floats))
-          → ListSays list w2o r (flips_of reverse o2w) (told Refused m (among (answer_at (flips_of reverse o2w) (aimed_of w2o r) list) (length list / floats)))
-      go zero says = says
-      go (suc m) says = tt
+      go : (m : std.Option Refusal) → ListSays list w2o r (flips_of reverse o2w) (among (answer_at (flips_of reverse o2w) (aimed_of w2o r) list) (length list / floats))
+          → ListSays list w2o r (flips_of reverse o2w) (told m (among (answer_at (flips_of reverse o2w) (aimed_of w2o r) list) (length list / floats)))
+      go None says = says
+      go (Some reason) says = tt
 
-  number-told : (a : NearestIntersection) → given ≡ a → first_of (refusals list o2w w2o r) ≡ at_or (λ m. m) 0 (refusal_in a)
-  number-told a e = number_of_first (refusals list o2w w2o r) ∙ ap (at_or (λ m. m) 0) (sym (refusal-first list o2w w2o reverse r) ∙ ap refusal_in e)
+  refusal-told : (a : Nearest) → given ≡ a → first_of (refusals list o2w w2o r) ≡ refusal_in a
+  refusal-told a e = sym (refusal-first list o2w w2o reverse r) ∙ ap refusal_in e
 
   pub nearest_correct : Correct list o2w w2o reverse r given
   unfolding counts
   nearest_correct = record {
-    refuses = λ number pos. ((λ e. number-told (Refused number) e), told-number number pos given refl);
+    refuses = λ reason. ((λ e. refusal-told (Err reason) e), told-reason reason given refl);
     hits = λ h k e. subst (ListSays list w2o r (flips_of reverse o2w)) e given_says;
-    misses = ((λ e. (number-told Miss e, subst (ListSays list w2o r (flips_of reverse o2w)) e given_says)), λ h. missed given refl given_says (nearest-numbered list o2w w2o reverse r) h.0 h.1);
+    misses = ((λ e. (refusal-told (Ok None) e, subst (ListSays list w2o r (flips_of reverse o2w)) e given_says)), λ h. missed given refl given_says h.0 h.1);
   }
     where
-      told-number : (number : ℕ) → 0 < number → (a : NearestIntersection) → given ≡ a → first_of (refusals list o2w w2o r) ≡ number → a ≡ Refused number
-      told-number number pos (Hit h k) e f = absurd (omega (arith, pos, number-told (Hit h k) e, f))
-      told-number number pos Miss e f = absurd (omega (arith, pos, number-told Miss e, f))
-      told-number number pos (Refused m) e f = ap Refused (sym (number-told (Refused m) e) ∙ f)
+      told-reason : (reason : Refusal) (a : Nearest) → given ≡ a → first_of (refusals list o2w w2o r) ≡ Some reason → a ≡ Err reason
+      told-reason reason (Ok h) e f = let none = refusal-told (Ok h) e in absurd (cc)
+      told-reason reason (Err other) e f = let same : other ≡ reason = (let told = refusal-told (Err other) e in cc) in ap Err same
 
-      missed : (a : NearestIntersection) → given ≡ a → ListSays list w2o r (flips_of reverse o2w) a → Numbered a → first_of (refusals list o2w w2o r) ≡ 0
-          → ((k i : ℕ) (l : Leaf) → LeafIn list w2o r k i l → counts rule.Nearest l ≡ false) → a ≡ Miss
-      missed (Hit h k) e says least f uncounted = absurd (counted-not says.is_number (uncounted k says.i (Passes says.x says.frame) says.leaf))
+      missed : (a : Nearest) → given ≡ a → ListSays list w2o r (flips_of reverse o2w) a → first_of (refusals list o2w w2o r) ≡ None
+          → ((k i : ℕ) (l : Leaf) → LeafIn list w2o r k i l → counts rule.Nearest l ≡ false) → a ≡ Ok None
+      missed (Ok (Some h)) e says f uncounted = absurd (counted-not says.is_number (uncounted h.1 says.i (Passes says.x says.frame) says.leaf))
         where
           counted-not : is_nan says.x.t ≡ false → counts rule.Nearest (Passes says.x says.frame) ≡ false → ⊥
           counted-not number e = false≢true (sym e ∙ rw number)
-      missed Miss e says least f uncounted = refl
-      missed (Refused m) e says least f uncounted = absurd (omega (arith, least, number-told (Refused m) e, f))
+      missed (Ok None) e says f uncounted = refl
+      missed (Err reason) e says f uncounted = let some = refusal-told (Err reason) e in absurd (cc)

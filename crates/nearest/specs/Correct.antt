@@ -1,17 +1,17 @@
--- What is right of an answer of `nearest` (02: P1). Definitions only: `proofs/NearestCorrect.antt` shows that every answer is.
+-- What is right of an answer of `nearest`. Definitions only: `proofs/NearestCorrect.antt` shows that every answer is.
 -- To be read beside `Nearest.antt` and, of `walk`, `Leaves.antt` (`open_at`, `leaf_at`) and `Rule.antt`: by `counts Nearest` a leaf passes at a distance that is no NaN,
 -- and by `ends Nearest` it has no frame then.
-use Rattle.std.specs.Prelude.{ℕ, ◌/◌, ◌^◌, ◌<◌, Bool, true, false, not, ◌&&◌, List, [], ◌∷◌, ◌++◌, ◌↔◌, ◌⊎◌, ◌≡◌, Float, length}
+use Rattle.std.specs.Prelude.{ℕ, ◌/◌, ◌^◌, ◌<◌, Bool, true, false, ◌&&◌, List, [], ◌∷◌, ◌++◌, ◌↔◌, ◌⊎◌, ◌≡◌, Float, length, Some, None, Result, Ok, Err}
 use Rattle.std.specs.Float.Ieee.{is_nan, lt}
 use Rattle.geometry.specs.declared.ray.Ray.{Ray}
 use Rattle.matrix.specs.declared.Matrix4x4.{Matrix4x4}
 use Rattle.limits.specs.List.{up_to}
-use Rattle.limits.specs.Refusal.{Table, first_of}
+use Rattle.limits.specs.declared.refusal.Refusal.{Refusal}
+use Rattle.limits.specs.Refused.{Table, first_of}
 use Rattle.curve.specs.declared.curve.Curve.{Curve}
-use Rattle.curve.specs.Curve.{is_curve}
+use Rattle.curve.specs.Curve.{lent_refusals}
 use Rattle.curve.specs.Layout.{floats, curve_from, curve_at}
 use Rattle.frame.specs.declared.frame.Framed.{Framed}
-use Rattle.frame.specs.declared.frame.Framed.TheVariants as framed
 use Rattle.frame.specs.Frame.{framed_curve}
 use Rattle.overlap.specs.Depth.{depth_of}
 use Rattle.overlap.specs.Subcurve.{whole_of}
@@ -25,30 +25,26 @@ use Rattle.walk.specs.declared.rule.Rule.TheVariants as rule
 use Rattle.walk.specs.Leaves.{open_at, leaf_at}
 use Rattle.walk.specs.Rule.{passes, distance_of, counts, ends}
 use Rattle.intersect.specs.Correct.{framing_refusals}
-use Rattle.nearest.specs.declared.NearestIntersection.{NearestIntersection}
-use Rattle.nearest.specs.declared.NearestIntersection.TheVariants.{Hit, Miss, Refused}
-use Rattle.nearest.specs.Nearest.{nearest_refusals}
+use Rattle.nearest.specs.Nearest.{Nearest, nearest_refusals}
 
 -- ---- the leaves
 
 -- the leaf i of a framed curve is open, and answers l
-abbrev pub OpenLeaf : Curve → Framed → ℕ → Leaf → Type 0
-OpenLeaf c (framed.Curve ray v cp) i l = (i < 2 ^ depth_of c cp) × (open_at c v (whole_of c cp) (depth_of c cp) i ≡ true) × (leaf_at c v (whole_of c cp) (depth_of c cp) i ≡ l)
-OpenLeaf c framed.ZeroWeight i l = ⊥
-OpenLeaf c framed.ZeroLength i l = ⊥
+abbrev pub OpenLeaf : Curve → Result Framed Refusal → ℕ → Leaf → Type 0
+OpenLeaf c (Ok f) i l = (i < 2 ^ depth_of c f.cubic) × (open_at c f.view (whole_of c f.cubic) (depth_of c f.cubic) i ≡ true) × (leaf_at c f.view (whole_of c f.cubic) (depth_of c f.cubic) i ≡ l)
+OpenLeaf c (Err reason) i l = ⊥
 
 -- h is the record of a crossing with its frame
-abbrev pub IsRecord : Curve → Bool → Framed → Crossing → Frame → SurfaceInteraction → Type 0
-IsRecord c flip (framed.Curve ray v cp) x f h = h ≡ record_of c ray flip x f
-IsRecord c flip framed.ZeroWeight x f h = ⊥
-IsRecord c flip framed.ZeroLength x f h = ⊥
+abbrev pub IsRecord : Curve → Bool → Result Framed Refusal → Crossing → Frame → SurfaceInteraction → Type 0
+IsRecord c flip (Ok framed) x f h = h ≡ record_of c framed.ray flip x f
+IsRecord c flip (Err reason) x f h = ⊥
 
 -- the curve k and in it the leaf i come before the curve k' and in it the leaf i'
 abbrev pub Before : ℕ → ℕ → ℕ → ℕ → Type 0
 Before k i k' i' = (k < k') ⊎ ((k ≡ k') × (i < i'))
 
 module _ (list : List Float) (w2o : Matrix4x4) (r : Ray) where
-  abbrev pub framed_at : ℕ → Framed
+  abbrev pub framed_at : ℕ → Result Framed Refusal
   framed_at k = framed_curve (curve_from (curve_at list k)) w2o r
 
   -- the leaf i of the curve k of the list is open, and answers l
@@ -72,23 +68,23 @@ module _ (list : List Float) (w2o : Matrix4x4) (r : Ray) where
 
 -- ---- the refusals, all of them in their order
 
-abbrev pub number_of : Leaf → ℕ
-number_of (Passes x f) = 0
-number_of Fails = 0
-number_of (NoFrame number t) = number
+-- a leaf's: 14, 15 or 16 where it is open, has no frame and lies at no NaN
+abbrev pub leaf_row : Bool → Leaf → Table
+leaf_row is_open (Passes x f) = []
+leaf_row is_open Fails = []
+leaf_row is_open (NoFrame reason t) = (is_open && ends rule.Nearest (NoFrame reason t), reason) ∷ []
 
--- 14, 15, 16: the leaves from 0 up
-unfoldable pub leaf_refusals : Curve → Framed → Table
-leaf_refusals c (framed.Curve ray v cp) =
-    let s = whole_of c cp in
-    let d = depth_of c cp in
-    up_to (λ i. (open_at c v s d i && ends rule.Nearest (leaf_at c v s d i), number_of (leaf_at c v s d i)) ∷ []) (2 ^ d)
-leaf_refusals c framed.ZeroWeight = []
-leaf_refusals c framed.ZeroLength = []
+-- the leaves from 0 up
+unfoldable pub leaf_refusals : Curve → Result Framed Refusal → Table
+leaf_refusals c (Ok f) =
+    let s = whole_of c f.cubic in
+    let d = depth_of c f.cubic in
+    up_to (λ i. leaf_row (open_at c f.view s d i) (leaf_at c f.view s d i)) (2 ^ d)
+leaf_refusals c (Err reason) = []
 
 -- 9, then 12 and 13 as the Rust meets them, then those of its leaves
 unfoldable pub alone_refusals : Matrix4x4 → Ray → List Float → Table
-alone_refusals w2o r l = let f = framed_curve (curve_from l) w2o r in (not (is_curve l), 9) ∷ framing_refusals f ++ leaf_refusals (curve_from l) f
+alone_refusals w2o r l = let f = framed_curve (curve_from l) w2o r in lent_refusals l ++ framing_refusals f ++ leaf_refusals (curve_from l) f
 
 -- 19, 10, 11, then curve by curve
 unfoldable pub refusals : List Float → Matrix4x4 → Matrix4x4 → Ray → Table
@@ -97,9 +93,9 @@ refusals list o2w w2o r = nearest_refusals list o2w w2o r ++ up_to (λ k. alone_
 -- ---- the call
 
 -- an answer of `nearest` to these is right
-pub record Correct (list : List Float) (o2w w2o : Matrix4x4) (reverse : Bool) (r : Ray) (answer : NearestIntersection) : Type 0 where
+pub record Correct (list : List Float) (o2w w2o : Matrix4x4) (reverse : Bool) (r : Ray) (answer : Nearest) : Type 0 where
   -- "The first refusal met is the answer."
-  pub refuses : (number : ℕ) → 0 < number → (answer ≡ Refused number) ↔ (first_of (refusals list o2w w2o r) ≡ number)
-  pub hits : (h : SurfaceInteraction) (k : ℕ) → answer ≡ Hit h k → NearestIs list w2o r (flips_of reverse o2w) h k
+  pub refuses : (reason : Refusal) → (answer ≡ Err reason) ↔ (first_of (refusals list o2w w2o r) ≡ Some reason)
+  pub hits : (h : SurfaceInteraction) (k : ℕ) → answer ≡ Ok (Some (h, k)) → NearestIs list w2o r (flips_of reverse o2w) h k
   -- "It is a miss exactly when nothing is refused and no open sliver passes."
-  pub misses : (answer ≡ Miss) ↔ ((first_of (refusals list o2w w2o r) ≡ 0) × ((k i : ℕ) (l : Leaf) → LeafIn list w2o r k i l → counts rule.Nearest l ≡ false))
+  pub misses : (answer ≡ Ok None) ↔ ((first_of (refusals list o2w w2o r) ≡ None) × ((k i : ℕ) (l : Leaf) → LeafIn list w2o r k i l → counts rule.Nearest l ≡ false))

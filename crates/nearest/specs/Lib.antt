@@ -1,4 +1,3 @@
 pub mod Answer
 pub mod Correct
-pub mod Kept
 pub mod Nearest

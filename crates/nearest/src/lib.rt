@@ -1,55 +1,80 @@
 // The nearest crossing of a ray with a list of curves, where `intersect` tells the last of one curve. There is nothing of
-// it in pbrt-rust but the walk. Refusals are numbers, and nothing is asked of a caller.
+// it in pbrt-rust but the walk. Nothing is asked of a caller.
 #![tactic(auto)]
 
-ghost use Rattle.std.specs.Prelude.{◌≡◌};
-ghost use Rattle.nearest.specs.Nearest.{nearest_within, nearest_aimed, nearest_of};
+ghost use Rattle.std.specs.Prelude.{◌≡◌, [], get_or, length};
+ghost use Rattle.frame.specs.Frame.{framed_along};
+ghost use Rattle.nearest.specs.Nearest.{nearer_of, among, framed_answer, answer_of, nearest_of};
 
-mod list;
-
-use crate::list::{nearest_along, refuse_first};
-use curve::FLOATS;
-use frame::{Aimed, aim_ray};
+use curve::{CurveRef, FLOATS};
+use frame::{Aim, aim_ray};
 use geometry::Ray;
 pub use interaction::SurfaceInteraction;
-use leaf::flips;
-use limits::ray_refusal;
+use leaf::{Leaf, flips, record_at};
+use limits::{Refusal, check_ray};
 use matrix::Matrix4x4;
+use walk::{Reached, Rule, walk_aimed};
 
-// A hit with its record and the number of its curve in the list, from 0; a miss; or a refusal by its number.
-#[derive(Clone, Copy)]
-pub enum NearestIntersection {
-    Hit(SurfaceInteraction, usize),
-    Miss,
-    Refused(u8),
-}
+// A hit with its record, and the number of its curve in the list, from 0.
+pub type Hit = (SurfaceInteraction, usize);
 
-// Of a list of whole curves.
-fn nearest_aimed(list: &[f32], flip: bool, aimed: Aimed) -> NearestIntersection
-    ensures { result ≡ nearest_aimed flip aimed list.now }
+// The nearest crossing of a curve, as number k of a list.
+#[tactic(auto, unfolding(crate::specs::Nearest::framed_answer, crate::specs::Nearest::leaf_answer))]
+fn meet_along(curve: &CurveRef<'_>, flip: bool, a: Aim, k: usize) -> Result<Option<Hit>, Refusal>
+    ensures { result ≡ framed_answer curve.now flip k (framed_along curve.now a) }
 {
-    match aimed {
-        Aimed::Ray(a) => nearest_along(list, flip, a),
-        Aimed::ZeroWeight => refuse_first(list),
+    let mut reached = Reached {
+        leaf: Leaf::Fails,
+        looked: 0,
+    };
+    walk_aimed(curve, a, Rule::Nearest, &mut reached)?;
+    match reached.leaf {
+        Leaf::Passes(at, frame) => Ok(Some((record_at(curve, a.ray, flip, at, frame), k))),
+        Leaf::Fails => Ok(None),
+        Leaf::NoFrame(refusal, _) => Err(refusal),
     }
 }
 
-fn nearest_within(
-    list: &[f32],
-    object_to_world: Matrix4x4,
-    world_to_object: Matrix4x4,
-    reverse_orientation: bool,
-    ray: Ray,
-) -> NearestIntersection
-    ensures { result ≡ nearest_within list.now object_to_world world_to_object reverse_orientation ray }
+// The same of its floats. Where the ray's origin has no place in the object's frame there is no aim, and floats that are no
+// curve are refused before that.
+fn meet_curve(
+    floats: &[f32; FLOATS],
+    flip: bool,
+    aim: Option<Aim>,
+    k: usize,
+) -> Result<Option<Hit>, Refusal>
+    ensures { result ≡ answer_of flip aim k floats.now }
 {
-    let number = ray_refusal(object_to_world, world_to_object, ray);
-    if number == 0 {
-        let flip = flips(reverse_orientation, object_to_world);
-        nearest_aimed(list, flip, aim_ray(world_to_object, ray))
-    } else {
-        NearestIntersection::Refused(number)
+    let curve = CurveRef::try_from(floats.as_slice())?;
+    let a = aim.ok_or(Refusal::ZeroWeight)?;
+    meet_along(&curve, flip, a, k)
+}
+
+// Of two hits, one behind the other: the first, as long as the second is not nearer.
+#[tactic(auto, unfolding(crate::specs::Nearest::nearer_of))]
+fn nearer_of(first: Option<Hit>, second: Option<Hit>) -> Option<Hit>
+    ensures { result ≡ nearer_of first second }
+{
+    match (first, second) {
+        (Some((h, _)), Some((g, _))) => if g.t_hit < h.t_hit { second } else { first },
+        (Some(_), None) => first,
+        (None, _) => second,
     }
+}
+
+// Curve by curve. The first refusal ends it.
+fn nearest_among(
+    curves: &[[f32; FLOATS]],
+    flip: bool,
+    aim: Option<Aim>,
+) -> Result<Option<Hit>, Refusal>
+    ensures { result ≡ among (λ k. answer_of flip aim k (get_or curves.now k [])) (length curves.now) }
+{
+    let mut best = None;
+    for (k, floats) in curves.iter().enumerate() {
+        best = nearer_of(best, meet_curve(floats, flip, aim, k)?);
+    }
+    Ok(best)
 }
 
 // Where a ray first meets a list of curves.
@@ -59,18 +84,14 @@ pub fn nearest(
     world_to_object: Matrix4x4,
     reverse_orientation: bool,
     ray: Ray,
-) -> NearestIntersection
+) -> Result<Option<Hit>, Refusal>
     ensures { result ≡ nearest_of list.now object_to_world world_to_object reverse_orientation ray }
 {
-    if list.len() % FLOATS == 0 {
-        nearest_within(
-            list,
-            object_to_world,
-            world_to_object,
-            reverse_orientation,
-            ray,
-        )
-    } else {
-        NearestIntersection::Refused(19)
+    let (curves, rest) = list.as_chunks::<FLOATS>();
+    if !rest.is_empty() {
+        return Err(Refusal::ListLength);
     }
+    check_ray(object_to_world, world_to_object, ray)?;
+    let flip = flips(reverse_orientation, object_to_world);
+    nearest_among(curves, flip, aim_ray(world_to_object, ray))
 }
