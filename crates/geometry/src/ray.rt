@@ -41,13 +41,6 @@ impl From<Ray> for [f32; RAY_FLOATS] {
 }
 
 impl Ray {
-    // For who says the type: From of the ray.
-    pub fn flatten(self) -> [f32; RAY_FLOATS]
-        ensures { result ≡ flat_ray self }
-    {
-        self.into()
-    }
-
     pub fn find_point(self, t: f32) -> Point3f
         ensures { result ≡ point_at self t }
     {
