@@ -1,4 +1,5 @@
-// The layout of the two arrays that a set is lent as. specs/Layout has it for the definitions.
+// The layout of the two arrays that a set is lent as. specs/Layout has it for the definitions. C lends the arrays apart and
+// keeps what they hold, so a row is a place in both and a kind is a word.
 
 use geometry::Ray;
 use matrix::Matrix4x4;

@@ -41,7 +41,7 @@ impl Set<'_> {
         (self.words[COUNT] as usize).min(CURVES)
     }
 
-    // The place of the curve with that number.
+    // The place of the curve with that number. A chain over the places would have to bound each of them again: no plainer.
     pub(crate) fn position(&self, number: u32) -> Option<usize>
         ensures { result ≡ position (named number) (set_of self.now.floats.now self.now.words.now) }
     {

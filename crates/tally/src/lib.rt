@@ -27,6 +27,7 @@ impl From<u32> for Kind {
     }
 }
 
+// No invariant ties the counters: any four are an input, and one that does not add up counts no more.
 #[derive(Clone, Copy, Debug, PartialEq, Eq, Hash, Default)]
 pub struct Tally {
     pub rays: u32,
