@@ -56,12 +56,6 @@ impl From<SurfaceInteraction> for [f32; RECORD_FLOATS] {
     }
 }
 
-pub fn record_floats(h: SurfaceInteraction) -> [f32; RECORD_FLOATS]
-    ensures { result ≡ record_floats h }
-{
-    <[f32; RECORD_FLOATS]>::from(h)
-}
-
 // The record whose floats stand at the start of a slice. It asks that they are there: it reads for other crates.
 pub fn record_from(s: &[f32]) -> SurfaceInteraction
     requires { record_size ≤ length s.now }

@@ -72,12 +72,6 @@ impl From<Matrix4x4> for [f32; MATRIX_FLOATS] {
     }
 }
 
-pub fn flatten(m: Matrix4x4) -> [f32; MATRIX_FLOATS]
-    ensures { result ≡ flat m }
-{
-    <[f32; MATRIX_FLOATS]>::from(m)
-}
-
 // The identity.
 impl Default for Matrix4x4 {
     ghost is_default = { λ m. m ≡ identity };
