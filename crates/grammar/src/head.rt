@@ -5,7 +5,8 @@ ghost use Rattle.grammar.specs.Head.{field_at, head_of};
 use crate::reader::{Kind, Line, Reader};
 
 /// What the lines say, widths as their bits, and the place behind them.
-#[derive(Clone, Copy)]
+// Numbers, as create_curve_shape is given them, which tells those that it refuses.
+#[derive(Clone, Copy, Debug, PartialEq, Eq)]
 pub struct Head {
     pub degree: u32,
     pub basis: u32,
@@ -18,7 +19,7 @@ pub struct Head {
 }
 
 /// Where a wrong line starts, and how many right lines stand before it.
-#[derive(Clone, Copy)]
+#[derive(Clone, Copy, Debug, PartialEq, Eq)]
 pub struct WrongLine {
     pub at: usize,
     pub lines: usize,

@@ -55,7 +55,7 @@ pub enum Kind {
 }
 
 /// A line that is right: its value, and the place behind its LF. A row's value is how many floats it has.
-#[derive(Clone, Copy)]
+#[derive(Clone, Copy, Debug, PartialEq, Eq)]
 pub struct Line {
     pub value: u32,
     pub next: usize,

@@ -1,6 +1,6 @@
 -- The number of a wrong line is its number in the sheet: it starts behind the lines that are right, and before it stand as many LFs as there are such lines. Assumes nothing.
 use mathlib.Core.Logic.{inl, inr}
-use mathlib.Core.Bool.{Bool, true, false, cond, not, false≢true, and-eq-true_iff}
+use mathlib.Core.Bool.{Bool, true, false, cond, not, and-eq-true_iff}
 use mathlib.Core.List.{List}
 use mathlib.Core.Path.{◌≡◌, refl, sym, ap, subst, ◌∙◌}
 use Prim.Native.Nat.{ℕ, zero, suc, ◌+◌, ◌*◌, ◌/◌, ◌<◌}

@@ -5,38 +5,27 @@ use mathlib.Core.List.{List}
 use Prim.Native.Nat.{ℕ, ◌+◌, ◌*◌, ◌≤◌}
 use native.Mathlib.Omega.{arith}
 use lib.Dec.{ltb, eqb}
-use lib.Ieee.{Float, binary32, of_bits}
+use lib.Ieee.{Float}
 use lib.ListN.{length, take}
 use lib.Seq.{take_at}
-use Rattle.create.specs.Create.{params_of, created_of, list_after}
+use Rattle.create.specs.Create.{created_of, list_after}
 use Rattle.geometry.specs.Ray.{ray_floats}
-use Rattle.limits.specs.List.{over, up_to}
+use Rattle.limits.specs.List.{over}
 use Rattle.limits.specs.declared.refusal.Refusal.{Refusal}
 use Rattle.limits.specs.declared.refusal.Refusal.TheVariants as refusal
 use Rattle.sheet.specs.declared.SheetRefusal.{SheetRefusal}
-use Rattle.limits.proofs.Lists.{over_nil, over-length, length-up_to}
-use Rattle.grammar.specs.Grammar.{row_size, point_key, ray_key, rows_from, floats_from, room_points, most_bytes}
+use Rattle.limits.proofs.Lists.{length-up_to}
+use Rattle.grammar.specs.Grammar.{row_size, point_key, ray_key, rows_from, floats_from, room_points}
 use Rattle.geometry.specs.Point.{point_floats}
-use Rattle.sheet.specs.Sheet.{most_rays, rays_from, rays_read, point_count, points_of, rays_at, ray_count, rays_of, lines_right, right_end, is_whole, no_rays, refused_with, params_in, with_curves, sheet_behind, sheet_within, list_behind, list_within, sheet_of, list_of}
+use Rattle.sheet.specs.Sheet.{most_rays, rays_from, rays_read, point_count, points_of, rays_at, ray_count, rays_of, lines_right, right_end, is_whole, no_rays, refused_with, params_in, with_curves, sheet_behind, list_behind, sheet_within, list_within}
 use Rattle.std.specs.Prelude.{Result, Ok, Err, is_ok}
-use Rattle.grammar.specs.Head.{head_of, head_end}
+use Rattle.grammar.specs.Head.{head_of}
 use Rattle.grammar.specs.declared.head.WrongLine.{WrongLine}
 use Rattle.grammar.specs.declared.reader.Reader.{Reader}
 use Rattle.grammar.specs.declared.head.Head.{Head}
 use Rattle.sheet.specs.declared.Sheet.{Sheet}
 use Rattle.grammar.proofs.Floats.{length-floats}
 use Rattle.grammar.proofs.Runs.{run-most}
-
--- ---- the curves
-
-pub made : (h : Head) (n : ℕ) (rays points list list' : List Float) (w0 w1 : Float) (created : Result ℕ Refusal) (room : ℕ) → w0 ≡ of_bits binary32 h.width0 → w1 ≡ of_bits binary32 h.width1
-    → (created ≡ created_of points (params_of h.degree h.basis h.ty w0 w1 h.splitdepth) room) × (list' ≡ list_after points (params_of h.degree h.basis h.ty w0 w1 h.splitdepth) list)
-    → (with_curves h n rays created ≡ with_curves h n rays (created_of points (params_in h) room)) × (list' ≡ list_after points (params_in h) list)
-unfolding params_in
-made h n rays points list list' w0 w1 created room e f g = (
-  ap (with_curves h n rays) (g.0 ∙ ap₂ (λ a b. created_of points (params_of h.degree h.basis h.ty a b h.splitdepth) room) e f),
-  g.1 ∙ ap₂ (λ a b. list_after points (params_of h.degree h.basis h.ty a b h.splitdepth) list) e f,
-)
 
 -- ---- counts are small
 
@@ -73,7 +62,6 @@ points_taken l h d out p e f =
 
 -- a head that is right, p points, and n rays behind them: first stands behind the points, and last behind the rays
 module _ (l : List ℕ) (h : Head) (p n : ℕ) (first last : Reader) (rays : List Float)
-    (e : Ok h ≡ head_of l)
     (f : p ≡ rows_from l h.end point_key point_floats room_points)
     (a : (first.src.now ≡ l) × (first.at ≡ h.end + p * row_size point_key point_floats))
     (g : (n ≡ rays_from first.src.now first.at p) × (rays ≡ over no_rays 0 (rays_read first.src.now first.at p)))
@@ -93,17 +81,17 @@ module _ (l : List ℕ) (h : Head) (p n : ℕ) (first last : Reader) (rays : Lis
   unfolding is_whole right_end rays_at ray_count
   whole_is = rw (← points_are, ← there, ← a.1, ← b)
 
-  pub within-whole : (list list' points : List Float) (room : ℕ) (r : Result Sheet SheetRefusal) → (ltb 0 p && eqb last.at (length l)) ≡ true → points ≡ points_of l (Ok h)
-      → (r ≡ with_curves h n rays (created_of points (params_in h) room)) × (list' ≡ list_after points (params_in h) list)
-      → (r ≡ sheet_within l room) × (list' ≡ list_within l list)
-  unfolding sheet_within list_within rays_at ray_count rays_of
-  within-whole list list' points room r t q k =
-      (rw (← e, whole_is, t, ← points_are, ← there, ← floats, ← q) k.0, rw (← e, whole_is, t, ← q) k.1)
+  pub within-whole : (list list' points : List Float) (room : ℕ) (made : Result ℕ Refusal) → (ltb 0 p && eqb last.at (length l)) ≡ true → points ≡ points_of l (Ok h)
+      → made ≡ created_of points (params_in h) room → list' ≡ list_after points (params_in h) list
+      → (with_curves h n rays made ≡ sheet_behind l room (Ok h)) × (list' ≡ list_behind l list (Ok h))
+  unfolding rays_at ray_count rays_of
+  within-whole list list' points room made t q k m =
+      (rw (whole_is, t, ← points_are, ← there, ← floats, ← q) (ap (with_curves h n rays) k), rw (whole_is, t, ← q) m)
 
   pub within_wrong : (list : List Float) (room : ℕ) (r : Result Sheet SheetRefusal) → (ltb 0 p && eqb last.at (length l)) ≡ false
-      → r ≡ refused_with refusal.WrongLine (7 + p + n + 1) → (r ≡ sheet_within l room) × (list ≡ list_within l list)
-  unfolding sheet_within list_within lines_right rays_at ray_count
-  within_wrong list room r t k = (rw (← e, whole_is, t, ← points_are, ← there) k, rw (← e, whole_is, t))
+      → r ≡ refused_with refusal.WrongLine (7 + p + n + 1) → (r ≡ sheet_behind l room (Ok h)) × (list ≡ list_behind l list (Ok h))
+  unfolding lines_right rays_at ray_count
+  within_wrong list room r t k = (rw (whole_is, t, ← points_are, ← there) k, rw (whole_is, t))
 
 -- a head that is wrong
 pub within_head : (l : List ℕ) (w : WrongLine) (list : List Float) (room : ℕ) (r : Result Sheet SheetRefusal) → Err w ≡ head_of l → r ≡ refused_with refusal.WrongLine (w.lines + 1) → (r ≡ sheet_within l room) × (list ≡ list_within l list)

@@ -2,7 +2,7 @@
 use mathlib.Core.Bool.{Bool, true, false, cond, ◌||◌}
 use mathlib.Core.List.{List}
 use mathlib.Core.Path.{◌≡◌, refl, subst}
-use Prim.Native.Nat.{ℕ, zero, suc, ◌/◌, ◌≤◌}
+use Prim.Native.Nat.{ℕ, ◌/◌, ◌≤◌}
 use native.Mathlib.Omega.{arith}
 use borrow.Author.Tests.{leb-true, ltb-false}
 use lib.Dec.{leb, ltb, lit≤}
@@ -19,7 +19,7 @@ use Rattle.grammar.specs.Head.{head_of}
 use Rattle.std.specs.Prelude.{Option, Some, None, Result, Ok, Err}
 use Rattle.grammar.specs.declared.head.Head.{Head}
 use Rattle.grammar.specs.declared.head.WrongLine.{WrongLine}
-use Rattle.sheet.specs.Sheet.{last_number, ray_count, is_whole, points_of, rays_of, no_rays, refused_with, params_in, with_curves, sheet_behind, sheet_within, sheet_of}
+use Rattle.sheet.specs.Sheet.{last_number, ray_count, is_whole, points_of, rays_of, no_rays, params_in, with_curves, sheet_behind, sheet_within, sheet_of}
 use Rattle.sheet.specs.declared.SheetRefusal.{SheetRefusal}
 use Rattle.sheet.specs.declared.Sheet.{Sheet}
 

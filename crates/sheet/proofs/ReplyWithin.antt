@@ -12,7 +12,7 @@ use Rattle.limits.specs.declared.refusal.Refusal.{Refusal}
 use Rattle.sheet.specs.declared.SheetRefusal.{SheetRefusal}
 use Rattle.limits.specs.List.{over}
 use Rattle.grammar.specs.Head.{head_of, head_lines_right}
-use Rattle.sheet.specs.Sheet.{most_rays, last_line, point_count, rays_from, rays_at, ray_count, is_whole, points_of, rays_of, no_rays, refused_with, lines_right, ReplyWithin, params_in, with_curves, sheet_behind, sheet_within, sheet_of}
+use Rattle.sheet.specs.Sheet.{most_rays, last_line, point_count, rays_from, rays_at, ray_count, is_whole, points_of, rays_of, no_rays, lines_right, ReplyWithin, params_in, with_curves, sheet_behind, sheet_within, sheet_of}
 use Rattle.grammar.specs.Grammar.{most_bytes}
 use Rattle.std.specs.Prelude.{Result, Ok, Err}
 use Rattle.grammar.specs.declared.head.Head.{Head}

@@ -8,7 +8,7 @@ ghost use Rattle.create.specs.Create.{created_of, list_after};
 ghost use Rattle.limits.specs.List.{over};
 ghost use Rattle.limits.specs.declared.refusal.Refusal.TheVariants as refusal;
 ghost use Rattle.grammar.specs.Grammar.{row_size, ray_key};
-ghost use Rattle.sheet.specs.Sheet.{most_rays, rays_from, rays_read, params_in, with_curves, sheet_within, list_within, sheet_of, list_of};
+ghost use Rattle.sheet.specs.Sheet.{most_rays, rays_from, rays_read, params_in, sheet_behind, list_behind, sheet_within, list_within, sheet_of, list_of};
 
 use geometry::{POINT_FLOATS, RAY_FLOATS};
 use grammar::{Head, Reader, Row, read_head};
@@ -78,21 +78,15 @@ fn read_rays(reader: &mut Reader<'_>, points: usize, out: &mut [f32]) -> usize
     }
 }
 
-// The curves of a whole sheet.
-fn create(
-    head: Head,
-    points: &[f32],
-    list: &mut [f32],
-    ray_count: usize,
-    rays: [f32; RAYS_FLOATS],
-) -> Result<Sheet, SheetRefusal>
-    ensures value { result
-        ≡ with_curves head ray_count rays (created_of points.now (params_in head) (length list.old)) }
+// The curves of a whole sheet, and how many there are.
+#[tactic(auto, unfolding(crate::specs::Sheet::params_in))]
+fn create(head: Head, points: &[f32], list: &mut [f32]) -> Result<u32, Refusal>
+    ensures value { result ≡ created_of points.now (params_in head) (length list.old) }
     ensures list_after { list.new ≡ list_after points.now (params_in head) list.old }
 {
     let width0 = float::of_bits(head.width0);
     let width1 = float::of_bits(head.width1);
-    let pieces = create::create_curve_shape(
+    create::create_curve_shape(
         points,
         head.degree,
         head.basis,
@@ -101,24 +95,14 @@ fn create(
         width1,
         head.splitdepth,
         list,
-    )?;
-    Ok(Sheet {
-        pieces,
-        reverse: head.reverse == 1,
-        ray_count,
-        rays,
-    })
+    )
 }
 
-// A sheet that is not too long.
-fn read_within(s: &[u8], list: &mut [f32]) -> Result<Sheet, SheetRefusal>
-    ensures value { result ≡ sheet_within s.now (length list.old) }
-    ensures list_after { list.new ≡ list_within s.now list.old }
+// What stands behind a head that is right.
+fn read_behind(s: &[u8], head: Head, list: &mut [f32]) -> Result<Sheet, SheetRefusal>
+    ensures value { result ≡ sheet_behind s.now (length list.old) (Ok head) }
+    ensures list_after { list.new ≡ list_behind s.now list.old (Ok head) }
 {
-    let head = match read_head(s) {
-        Ok(head) => head,
-        Err(wrong) => return Err(wrong_line(wrong.lines)),
-    };
     let mut points = [0.0f32; ROOM_POINTS * POINT_FLOATS];
     let mut rays = [0.0f32; RAYS_FLOATS];
     let mut reader = Reader {
@@ -127,10 +111,28 @@ fn read_within(s: &[u8], list: &mut [f32]) -> Result<Sheet, SheetRefusal>
     };
     let p = reader.read_rows(Row::Point, ROOM_POINTS, &mut points);
     let n = read_rays(&mut reader, p, &mut rays);
-    if (0 < p) & (reader.at == s.len()) {
-        create(head, &points[..p * POINT_FLOATS], list, n, rays)
-    } else {
-        Err(wrong_line(HEAD_LINES + p + n))
+    let is_whole = (0 < p) & (reader.at == s.len());
+    if !is_whole {
+        return Err(wrong_line(HEAD_LINES + p + n));
+    }
+    let pieces = create(head, &points[..p * POINT_FLOATS], list)?;
+    Ok(Sheet {
+        pieces,
+        reverse: head.reverse == 1,
+        ray_count: n,
+        rays,
+    })
+}
+
+// A sheet that is not too long.
+#[tactic(auto, unfolding(crate::specs::Sheet::sheet_within, crate::specs::Sheet::list_within))]
+fn read_within(s: &[u8], list: &mut [f32]) -> Result<Sheet, SheetRefusal>
+    ensures value { result ≡ sheet_within s.now (length list.old) }
+    ensures list_after { list.new ≡ list_within s.now list.old }
+{
+    match read_head(s) {
+        Ok(head) => read_behind(s, head, list),
+        Err(wrong) => Err(wrong_line(wrong.lines)),
     }
 }
 

@@ -4,6 +4,7 @@ ghost use Rattle.text.specs.Digits.{digit_char, decimal_text, hex_text, float_te
 ghost use Rattle.text.specs.Put.{Puts};
 
 /// A buffer that is lent, and the place behind what was put into it.
+// No writer of std's: what it answers at a full buffer would have to be told apart at each line, and here a text is cut.
 #[derive(Drop)]
 pub struct Buffer<'a> {
     pub bytes: &'a mut [u8],
