@@ -22,6 +22,7 @@ use text::Buffer;
 pub const ROOM: usize = MOST_CURVES * FLOATS;
 
 /// What is left of a sheet's report: what was read of the sheet, but for its curves, and the line that is next.
+// `Sound` is no ghost field: the laws of blocks write a rest as a record with another line, and each would carry the proof.
 #[derive(Clone, Copy)]
 pub struct Rest {
     pub sheet: Result<Sheet, SheetRefusal>,
