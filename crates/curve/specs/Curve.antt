@@ -5,8 +5,7 @@ use Rattle.std.specs.Float.Ieee.{of_bits, le, lt}
 use Rattle.float.specs.Arith.{0f, 1f}
 use Rattle.geometry.specs.declared.point.Point3f.{Point3f}
 use Rattle.geometry.specs.Pbrt.{lerp_of}
-use Rattle.limits.specs.Refusal.{Table}
-use Rattle.limits.specs.Refused as refused
+use Rattle.limits.specs.Refused.{Table}
 use Rattle.limits.specs.declared.refusal.Refusal.TheVariants as refusal
 use Rattle.limits.specs.Within.{within, width_within}
 use Rattle.bezier.specs.declared.axis.Axis.{Axis}
@@ -45,12 +44,8 @@ in_limits c =
 unfoldable pub is_curve : List Float → Bool
 is_curve l = eqb (length l) floats && in_limits (curve_from l)
 
--- 9
-unfoldable pub curve_refusals : List Float → Table
-curve_refusals l = (not (is_curve l), 9) ∷ []
-
--- the same by its refusal
-unfoldable pub lent_refusals : List Float → refused.Table
+-- what a lent record is refused for
+unfoldable pub lent_refusals : List Float → Table
 lent_refusals l = (not (is_curve l), refusal.Curve) ∷ []
 
 -- ---- the part from umin to umax

@@ -1,6 +1,5 @@
 pub mod Below
 pub mod List
 pub mod Ray
-pub mod Refusal
 pub mod Refused
 pub mod Within

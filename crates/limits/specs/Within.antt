@@ -1,5 +1,5 @@
 -- Limits on floats, matrices and rays. Definitions only.
-use Rattle.std.specs.Prelude.{Bool, not, ◌&&◌, [], ◌∷◌, Float}
+use Rattle.std.specs.Prelude.{Bool, ◌&&◌, Float}
 use Rattle.std.specs.Float.{binary32}
 use Rattle.std.specs.Float.Ieee.{of_bits, le}
 use Rattle.float.specs.Arith.{0f}
@@ -7,7 +7,6 @@ use Rattle.float.specs.Basic.{abs_of}
 use Rattle.geometry.specs.declared.ray.Ray.{Ray}
 use Rattle.matrix.specs.declared.Row.{Row}
 use Rattle.matrix.specs.declared.Matrix4x4.{Matrix4x4}
-use Rattle.limits.specs.Refusal.{Table}
 
 -- 1,048,576
 abbrev pub largest : Float
@@ -34,7 +33,3 @@ ray_within r =
     within r.o.x largest && within r.o.y largest && within r.o.z largest && within r.d.x largest && within r.d.y largest && within r.d.z largest
     && within r.time largest
     && le 0f r.t_max
-
--- 10, 11: both matrices, then the ray
-unfoldable pub ray_refusals : Matrix4x4 → Matrix4x4 → Ray → Table
-ray_refusals o2w w2o r = (not (matrix_within o2w && matrix_within w2o), 10) ∷ (not (ray_within r), 11) ∷ []

@@ -1,12 +1,11 @@
 // What several operations ask of what they are given: floats, matrices and rays within limits. The refusals as a table
-// (specs/Refusal) and a list that is written over (specs/List) are definitions alone.
+// (specs/Refused) and a list that is written over (specs/List) are definitions alone.
 #![tactic(auto)]
 
 ghost use Rattle.std.specs.Prelude.{◌≡◌, Ok};
-ghost use Rattle.limits.specs.Ray as rays;
-ghost use Rattle.limits.specs.Refused as refused;
-ghost use Rattle.limits.specs.Refusal.{first_of};
-ghost use Rattle.limits.specs.Within.{within, width_within, row_within, matrix_within, ray_within, ray_refusals};
+ghost use Rattle.limits.specs.Ray.{ray_refusals};
+ghost use Rattle.limits.specs.Refused.{first_of, told};
+ghost use Rattle.limits.specs.Within.{within, width_within, row_within, matrix_within, ray_within};
 
 mod refusal;
 
@@ -65,17 +64,6 @@ fn is_ray_within(r: Ray) -> bool
         & (0.0 <= r.t_max)
 }
 
-// 10 or 11 where one applies, else 0.
-pub fn ray_refusal(object_to_world: Matrix4x4, world_to_object: Matrix4x4, ray: Ray) -> u8
-    ensures { result ≡ first_of (ray_refusals object_to_world world_to_object ray) }
-{
-    if is_matrix_within(object_to_world) & is_matrix_within(world_to_object) {
-        if is_ray_within(ray) { 0 } else { 11 }
-    } else {
-        10
-    }
-}
-
 /// Whether the matrices, then the ray, are within the limits: refusal 10 or 11 where they are not.
 #[tactic(auto, unfolding(crate::specs::Ray::ray_refusals, crate::specs::Refused::first_of))]
 pub fn check_ray(
@@ -83,7 +71,7 @@ pub fn check_ray(
     world_to_object: Matrix4x4,
     ray: Ray,
 ) -> Result<(), Refusal>
-    ensures { result ≡ refused.told (refused.first_of (rays.ray_refusals object_to_world world_to_object ray)) (Ok tt) }
+    ensures { result ≡ told (first_of (ray_refusals object_to_world world_to_object ray)) (Ok tt) }
 {
     if !(is_matrix_within(object_to_world) & is_matrix_within(world_to_object)) {
         return Err(Refusal::Matrix);

@@ -81,9 +81,9 @@ impl fmt::Display for Refusal {
             Refusal::TooMany => "there are over 256 points, or over 1,024 curves",
             Refusal::PointsOrWidths =>
                 "a coordinate is not finite or beyond ±1,048,576, or a width is outside 1/1024 to 1,024",
-            Refusal::ListTooShort => "the list is shorter than sixteen floats a curve",
+            Refusal::ListTooShort => "the list is too short for the curves",
             Refusal::Curve =>
-                "the curve is not sixteen finite floats with coordinates within ±2,097,152, widths from 1/2048 to 2,048 and 0 ≤ umin < umax ≤ 1",
+                "the floats are not a curve with coordinates within ±2,097,152, widths from 1/2048 to 2,048 and 0 ≤ umin < umax ≤ 1",
             Refusal::Matrix => "an entry of a matrix is not finite or beyond ±1,048,576",
             Refusal::Ray =>
                 "an origin, direction or time is not finite or beyond ±1,048,576, or t_max is negative or a NaN",
