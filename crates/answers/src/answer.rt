@@ -7,7 +7,7 @@ use matrix::{MATRIX_FLOATS, Matrix4x4};
 // Room for the words of any answer.
 const ANSWER_WORDS: usize = 96;
 
-// The status of an answer that is no refusal.
+// The status of an answer that is no refusal, as the oracle's lines have it.
 pub(crate) const DONE: u32 = 0;
 
 #[derive(Debug, Drop)]

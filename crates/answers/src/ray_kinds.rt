@@ -8,7 +8,7 @@ use intersect::Intersection;
 use lines::LINE_WORDS;
 use matrix::Matrix4x4;
 
-// The status of a miss.
+// The status of a miss, as the oracle's lines have it.
 const MISSED: u32 = 1;
 
 // What a line has behind its curves, by the oracle's name.

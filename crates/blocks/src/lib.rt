@@ -100,7 +100,7 @@ impl Rest {
         self.line_count() - self.next == 0
     }
 
-    // The next lines, as long as there is room for the longest, and what is left behind them.
+    // The next lines, as long as there is room for the longest, and what is left behind them. No count ends it.
     fn put_lines(&self, buffer: &mut Buffer<'_>, list: &[f32; ROOM]) -> Rest
         requires { Sound self.now × (buffer.old.end ≡ 0) }
         ensures same_buffer { buffer.new.bytes.ghost_name ≡ buffer.old.bytes.ghost_name }

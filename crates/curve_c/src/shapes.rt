@@ -12,6 +12,7 @@ use crate::floats::{BOUNDS_FLOATS, bounds_floats};
 use crate::outputs::put;
 use matrix::{MATRIX_FLOATS, Matrix4x4};
 
+// Degree, basis and type are C's numbers.
 #[unsafe(no_mangle)]
 pub extern "C" fn curve_create(
     points: &[f32],

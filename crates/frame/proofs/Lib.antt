@@ -1,2 +1,3 @@
 pub mod FramedRay
 pub mod Unframed
+pub mod ViewBack

@@ -15,7 +15,8 @@ use limits::{Refusal, check_ray};
 use matrix::Matrix4x4;
 use walk::{Reached, Rule, walk_aimed};
 
-// A hit with its record, or a miss, each with the number of subcurves looked at.
+// A hit with its record, or a miss, each with the number of subcurves looked at. An Option of a record beside the number
+// would say the same with no names.
 #[derive(Clone, Copy, Debug, PartialEq)]
 pub enum Intersection {
     Hit(SurfaceInteraction, u32),

@@ -1,1 +1,2 @@
+pub mod FoundBack
 pub mod NoFrame

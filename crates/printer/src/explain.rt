@@ -3,7 +3,6 @@ use crate::ending::wrong_ending_of;
 use crate::print::Printed;
 use limits::Refusal;
 use sheet::SheetRefusal;
-use std::io;
 use std::io::Write;
 use transfer::tell;
 
@@ -22,15 +21,16 @@ fn expected_on(line: usize) -> &'static str {
     }
 }
 
-fn say_wrong_line<E: Write>(err: &mut E, line: usize, sheet: &[u8]) -> io::Result<()> {
-    write!(err, "line {line}: ")?;
+// What follows a write that failed is written all the same.
+fn say_wrong_line<E: Write>(err: &mut E, line: usize, sheet: &[u8]) {
+    let _ = write!(err, "line {line}: ");
     if let Some(ending) = wrong_ending_of(sheet, line) {
-        write!(err, "{ending}; ")?;
+        let _ = write!(err, "{ending}; ");
     }
-    writeln!(err, "expected {}", expected_on(line))
+    let _ = writeln!(err, "expected {}", expected_on(line));
 }
 
-// Which limit a refused sheet breaks.
+// Which limit a refused sheet breaks. These are the words that the program prints; those of `Refusal` are others.
 fn limit_of(refusal: Refusal) -> &'static str {
     match refusal {
         Refusal::Degree => "the degree is not 2 or 3",
@@ -46,10 +46,12 @@ fn limit_of(refusal: Refusal) -> &'static str {
 }
 
 pub fn explain<E: Write>(err: &mut E, refused: SheetRefusal, sheet: &[u8]) {
-    let _ = match refused.refusal {
+    match refused.refusal {
         Refusal::WrongLine => say_wrong_line(err, refused.line, sheet),
-        refusal => writeln!(err, "{}", limit_of(refusal)),
-    };
+        refusal => {
+            let _ = writeln!(err, "{}", limit_of(refusal));
+        }
+    }
 }
 
 // Says that a report is cut short, where and why.

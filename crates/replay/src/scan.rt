@@ -3,7 +3,8 @@ use lines::{LINE_WORDS, Words};
 use std::io::Write;
 use text::digit;
 
-// A line as far as it is read: its words, the word that is being read, and whether one had no room.
+// A line as far as it is read: its words, the word that is being read, and whether one had no room. A line that is too long
+// is printed too, so its words stay.
 #[derive(Debug, Drop)]
 pub struct Scan {
     words: Words<LINE_WORDS>,

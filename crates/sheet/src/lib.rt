@@ -26,7 +26,7 @@ pub const RAYS_FLOATS: usize = MOST_RAYS * RAY_FLOATS;
 const HEAD_LINES: usize = 7;
 
 /// What an accepted sheet holds: how many curves were put into the list, the reverse flag, and how many
-/// rays, with eight floats for each, the rest 0.
+/// rays, with eight floats for each, the rest 0: memory is fixed.
 #[derive(Clone, Copy)]
 pub struct Sheet {
     pub pieces: u32,

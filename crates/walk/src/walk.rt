@@ -100,7 +100,8 @@ fn walk_whole(curve: &CurveRef<'_>, view: View, s: Subcurve, rule: Rule, reached
 }
 
 // The walk of a curve in the frame of a ray. What every reply asks of the ray and the curve alone is done here, so that it
-// is in the machine's code once.
+// is in the machine's code once. What it comes to is lent: as a `Result` of it a beam thrown out takes 0.7 % more
+// instructions, and the nearest 1 %.
 pub fn walk_aimed(
     curve: &CurveRef<'_>,
     a: Aim,
