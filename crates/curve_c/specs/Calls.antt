@@ -5,6 +5,7 @@ use Rattle.std.specs.Result.{result_ok}
 use Rattle.limits.specs.declared.refusal.Refusal.{Refusal}
 use Rattle.limits.specs.Refused.{number_of}
 use Rattle.geometry.specs.declared.bounds.Bounds3f.{Bounds3f}
+use Rattle.geometry.specs.Bounds.{bounds_floats}
 use Rattle.geometry.specs.Ray.{ray_from}
 use Rattle.matrix.specs.Matrix.{matrix_from}
 use Rattle.interaction.specs.declared.SurfaceInteraction.{SurfaceInteraction}
@@ -18,7 +19,6 @@ use Rattle.curve_set.specs.Layout.{head_by}
 use Rattle.sheet.specs.declared.Sheet.{Sheet}
 use Rattle.sheet.specs.declared.SheetRefusal.{SheetRefusal}
 use Rattle.sheet.specs.Answer.{reply_line, reply_counts}
-use Rattle.curve_c.specs.Floats.{bounds_floats}
 
 -- an output afterwards: a value in C's form, or what it held
 abbrev pub written : {A B : Type 0} → (A → B) → Option A → B → B

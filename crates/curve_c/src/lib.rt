@@ -3,7 +3,6 @@
 // leaves what they point to, but for the line that curve_sheet writes with every reply.
 #![tactic(auto)]
 
-mod floats;
 mod lists;
 mod outputs;
 mod rays;

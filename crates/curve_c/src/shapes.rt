@@ -8,8 +8,8 @@ ghost use Rattle.measure.specs.Area.{area_in};
 ghost use Rattle.measure.specs.Price.{price_in};
 ghost use Rattle.curve_c.specs.Calls.{after, bound_after};
 
-use crate::floats::{BOUNDS_FLOATS, bounds_floats};
 use crate::outputs::put;
+use geometry::BOUNDS_FLOATS;
 use matrix::{MATRIX_FLOATS, Matrix4x4};
 
 // Degree, basis and type are C's numbers.
@@ -40,7 +40,7 @@ pub extern "C" fn curve_object_bound(piece: &[f32], out: &mut [f32; BOUNDS_FLOAT
     ensures value { result ≡ status_of (object_bound piece.now) }
     ensures out_after { out.new ≡ bound_after (object_bound piece.now) out.old }
 {
-    put(measure::object_bound(piece).map(bounds_floats), out)
+    put(measure::object_bound(piece).map(<[f32; BOUNDS_FLOATS]>::from), out)
 }
 
 #[unsafe(no_mangle)]
@@ -53,7 +53,7 @@ pub extern "C" fn curve_world_bound(
     ensures out_after { out.new ≡ bound_after (world_bound piece.now (matrix_from object_to_world.now 0)) out.old }
 {
     let bound = measure::world_bound(piece, Matrix4x4::from(object_to_world));
-    put(bound.map(bounds_floats), out)
+    put(bound.map(<[f32; BOUNDS_FLOATS]>::from), out)
 }
 
 #[unsafe(no_mangle)]

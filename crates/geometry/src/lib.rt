@@ -12,7 +12,7 @@ mod point;
 mod ray;
 mod vector;
 
-pub use bounds::Bounds3f;
+pub use bounds::{BOUNDS_FLOATS, Bounds3f};
 pub use normal::Normal3f;
 pub use pbrt::{Interpolate, clamp, gamma, lerp};
 pub use point::{POINT_FLOATS, Point2f, Point3f, point_from};

@@ -10,7 +10,7 @@ use crate::pbrt::Interpolate;
 use crate::vector::{Vector2f, Vector3f};
 use std::ops::{Add, Mul, Sub};
 
-#[derive(Clone, Copy, Debug)]
+#[derive(Clone, Copy, Debug, PartialEq)]
 pub struct Point2f {
     pub x: f32,
     pub y: f32,

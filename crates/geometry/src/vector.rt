@@ -160,7 +160,7 @@ impl Vector3f {
 
 // A cross product with the square of its length, summed while its parts are in registers: what is read back right after
 // it was written costs more than the sum.
-#[derive(Clone, Copy)]
+#[derive(Clone, Copy, Debug, PartialEq)]
 pub struct Crossed {
     pub v: Vector3f,
     pub length_squared: f32,
@@ -183,7 +183,7 @@ fn squared(x: f32, y: f32, z: f32) -> Crossed
 fn cross_parts(ax: f32, ay: f32, az: f32, bx: f32, by: f32, bz: f32) -> Crossed
     ensures { result ≡ crossed_of (vector_of ax ay az) (vector_of bx by bz) }
 {
-    if (ax != ax) | (ay != ay) | (az != az) | (bx != bx) | (by != by) | (bz != bz) {
+    if ax.is_nan() | ay.is_nan() | az.is_nan() | bx.is_nan() | by.is_nan() | bz.is_nan() {
         squared(
             minor(ay, bz, az, by),
             minor(az, bx, ax, bz),

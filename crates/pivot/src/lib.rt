@@ -11,7 +11,7 @@ mod line;
 pub use line::Line;
 
 // The pivot found so far: big, irow and icol.
-#[derive(Clone, Copy)]
+#[derive(Clone, Copy, Debug, PartialEq)]
 pub struct Pivot {
     pub big: f32,
     pub row: Line,
@@ -29,7 +29,7 @@ pub const LATER: bool = false;
 fn look(best: Pivot, row: Line, col: Line, x: f32) -> Pivot
     ensures { result ≡ look_entry best 0 row col x }
 {
-    if x != x {
+    if x.is_nan() {
         return best;
     }
     let big = float::abs(x);

@@ -21,7 +21,7 @@ pub fn transform_bounds(m: Matrix4x4, b: Bounds3f) -> Option<Bounds3f>
     let low = b.p_min;
     let high = b.p_max;
     // Corner after corner: a loop over an array of them takes a tenth longer for the hall box.
-    let b0 = Bounds3f::from_point(transform_point(m, low)?);
+    let b0 = Bounds3f::from(transform_point(m, low)?);
     let b1 = b0.union_point(transform_point(m, point(high.x, low.y, low.z))?);
     let b2 = b1.union_point(transform_point(m, point(low.x, high.y, low.z))?);
     let b3 = b2.union_point(transform_point(m, point(low.x, low.y, high.z))?);

@@ -1,9 +1,8 @@
--- What differs from itself is a NaN, which is at least nothing.
-use Rattle.std.proofs.Common.{◌≡◌, refl, sym, ap, subst, ◌∙◌, true, false}
-use lib.Dec.{T}
-use lib.Ieee.{Float, nan, inf, fin, lt, eq, le, ne}
-use lib.Ieee.Compare.{differs_from_itself}
+-- A NaN is at least nothing.
+use Rattle.std.proofs.Common.{◌≡◌, refl, sym, ap, ◌∙◌, true, false}
+use lib.Ieee.{Float, nan, inf, fin, lt, eq, le, is_nan}
 use Rattle.float.specs.Basic.{abs_of}
+use Rattle.float.proofs.Compare.{is_none}
 use Rattle.pivot.specs.Pivot.{look_entry}
 use Rattle.pivot.proofs.look.Goals as goal
 
@@ -14,12 +13,12 @@ under-nan (inf true) = refl
 under-nan (inf false) = refl
 under-nan (fin s m e) = refl
 
-passed-by : (b x : Float) → ne x x ≡ true → le b (abs_of x) ≡ false
-passed-by b x h = ap (λ (y : Float). le b (abs_of y)) (differs_from_itself x (subst T (sym h) tt)) ∙ under-nan b
+passed-by : (b x : Float) → is_nan x ≡ true → le b (abs_of x) ≡ false
+passed-by b x h = ap (λ (y : Float). le b (abs_of y)) (is_none x (sym h)) ∙ under-nan b
 
-pub returns-then-x : goal.returns-then-x
+pub returns-then-is_nan : goal.returns-then-is_nan
 unfolding look_entry
-returns-then-x c = simp (passed-by c.args.best.big c.args.x c.if-x.true)
+returns-then-is_nan c = simp (passed-by c.args.best.big c.args.x (cc))
 
 pub returns-then-big-best : goal.returns-then-big-best
 unfolding look_entry
