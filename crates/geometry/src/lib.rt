@@ -2,7 +2,8 @@
 // core/geometry and core/pbrt.rs of pbrt-rust, by their names and in their order of operations.
 // The Rust's generic types are structs of floats, and where it panics on a division by zero there is no answer.
 // An operator is written for each of them, as in the Rust: no macro of the repository may write an impl, and one struct for
-// points, vectors and normals would let them be mixed.
+// points, vectors and normals would let them be mixed. A marker's type would keep them apart (`Tuple<Kind>`, with a PhantomData
+// that each literal writes), but `scaled` and its like would name the kind, or be written for each kind as they are.
 #![tactic(auto)]
 
 mod bounds;

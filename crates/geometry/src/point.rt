@@ -41,7 +41,8 @@ pub struct Point3f {
 pub const POINT_FLOATS: usize = 3;
 
 // The point whose coordinates start at a place among floats. It asks that they are there: it reads for other crates, and a
-// TryFrom could fail.
+// TryFrom could fail. By a place and not from a slice's rest, as the definitions read a list: `ray_from` over `&s[at..]` has no
+// proof without a lemma that place i of the rest is place at + i.
 pub fn point_from(s: &[f32], at: usize) -> Point3f
     requires { at + 3 ≤ length s.now }
     ensures { result ≡ point_from s.now at }
@@ -120,7 +121,8 @@ impl Interpolate for Point3f {
 }
 
 impl Point3f {
-    // One reciprocal, and three products. There is none for a zero: there the Rust panics.
+    // One reciprocal, and three products. There is none for a zero: there the Rust panics. As of a vector, which says why
+    // there are two.
     pub fn div(self, k: f32) -> Option<Point3f>
         ensures { result ≡ point_divided self k }
     {

@@ -18,7 +18,8 @@ pub struct Ray {
 // How many floats a ray is: origin, direction, t_max, time.
 pub const RAY_FLOATS: usize = 8;
 
-// The ray whose floats start at a place. It asks that they are there: it reads for other crates, and a TryFrom could fail.
+// The ray whose floats start at a place. It asks that they are there: it reads for other crates, and a TryFrom could fail. By
+// a place, as `point_from`.
 pub fn ray_from(s: &[f32], at: usize) -> Ray
     requires { at + ray_floats ≤ length s.now }
     ensures { result ≡ ray_from s.now at }

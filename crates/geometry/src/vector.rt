@@ -48,7 +48,8 @@ pub struct Vector3f {
     pub z: f32,
 }
 
-// The vector whose components start at a place among floats. It asks that they are there: it reads for other crates.
+// The vector whose components start at a place among floats. It asks that they are there: it reads for other crates. By a
+// place, as `point_from`.
 pub fn vector_from(s: &[f32], at: usize) -> Vector3f
     requires { at + 3 ≤ length s.now }
     ensures { result ≡ vector_from s.now at }

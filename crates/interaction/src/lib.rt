@@ -56,7 +56,8 @@ impl From<SurfaceInteraction> for [f32; RECORD_FLOATS] {
     }
 }
 
-// The record whose floats stand at the start of a slice. It asks that they are there: it reads for other crates.
+// The record whose floats stand at the start of a slice. It asks that they are there: it reads for other crates. Its parts are
+// read by their places in it, as `point_from` says.
 pub fn record_from(s: &[f32]) -> SurfaceInteraction
     requires { record_size ≤ length s.now }
     ensures { result ≡ record_from s.now }

@@ -3,12 +3,12 @@
 // and NaNs.
 #![tactic(auto)]
 
-ghost use Rattle.std.specs.Prelude.{◌≡◌, ◌≢◌, ◌<◌, ◌+◌, ◌*◌, IsTrue, EachIndex, slice_index_or, if◌then◌else◌};
+ghost use Rattle.std.specs.Prelude.{◌≡◌, ◌≢◌, ◌<◌, ◌+◌, ◌*◌, EachIndex, slice_index_or, if◌then◌else◌};
 ghost use Rattle.std.specs.Float.{nan};
-ghost use Rattle.pivot.specs.Pivot.{none_taken, pivot_of};
+ghost use Rattle.pivot.specs.Pivot.{pivot_of};
 ghost use Rattle.inverse.specs.Inverse.{AtMost, column_taken, entry_at, swap_at, swap_rows, swap_columns, but_at, scale_row, cleared, reduced, turned, inverse_flat};
 
-use pivot::{FIRST, LATER, Line, Pivot, find_pivot};
+use pivot::{LATER, Line, Marks, Pivot, find_pivot};
 
 // For lines that are rows, and for columns.
 const ROWS: bool = true;
@@ -129,29 +129,27 @@ fn turn_about(m: &mut [f32; 16], p: &Pivot)
     reduce_by_column(m, p.col);
 }
 
-// A turn of the outer loop: its indxr and indxc.
-fn turn<const IS_FIRST: bool>(m: &mut [f32; 16], ipiv: &mut [usize; 4]) -> Pivot
-    requires few { AtMost 3 ipiv.old }
-    requires none { IsTrue IS_FIRST → ipiv.old ≡ none_taken }
-    ensures pivot { result ≡ pivot_of m.old ipiv.old }
-    ensures left { m.new ≡ turned m.old result }
-    ensures taken { ipiv.new ≡ column_taken ipiv.old result.col }
+// A turn of the outer loop: its indxr and indxc, and the marks after it.
+#[tactic(auto, unfolding(crate::specs::Inverse::column_taken))]
+fn turn<const TURN: usize>(m: &mut [f32; 16], ipiv: &Marks<TURN>) -> (Pivot, Marks<LATER>)
+    requires { AtMost 3 ipiv.now }
+    ensures pivot { result.0 ≡ pivot_of m.old ipiv.now }
+    ensures left { m.new ≡ turned m.old result.0 }
+    ensures taken { result.1 ≡ column_taken ipiv.now result.0.col }
 {
-    let p = find_pivot::<IS_FIRST>(m, ipiv);
-    ipiv[p.col.at()] += 1;
+    let p = find_pivot(m, ipiv);
     turn_about(m, &p);
-    p
+    (p, ipiv.take(p.col))
 }
 
 // The inverse of what is lent, in its place.
 pub fn invert(v: &mut [f32; 16])
     ensures { v.new ≡ inverse_flat v.old }
 {
-    let mut ipiv = [0usize; 4];
-    let p0 = turn::<FIRST>(v, &mut ipiv);
-    let p1 = turn::<LATER>(v, &mut ipiv);
-    let p2 = turn::<LATER>(v, &mut ipiv);
-    let p3 = turn::<LATER>(v, &mut ipiv);
+    let (p0, i1) = turn(v, &Marks::none());
+    let (p1, i2) = turn(v, &i1);
+    let (p2, i3) = turn(v, &i2);
+    let (p3, _) = turn(v, &i3);
     swap_lines::<COLUMNS>(v, &p3);
     swap_lines::<COLUMNS>(v, &p2);
     swap_lines::<COLUMNS>(v, &p1);

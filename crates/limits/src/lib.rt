@@ -64,6 +64,8 @@ fn is_ray_within(r: Ray) -> bool
         & (0.0 <= r.t_max)
 }
 
+// The matrices and the ray come one by one, as a caller of the Rust's `intersect` has them: a struct of them would be made for
+// this call alone, since what follows takes one matrix and the ray.
 /// Whether the matrices, then the ray, are within the limits: refusal 10 or 11 where they are not.
 #[tactic(auto, unfolding(crate::specs::Ray::ray_refusals, crate::specs::Refused::first_of))]
 pub fn check_ray(

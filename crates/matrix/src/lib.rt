@@ -24,7 +24,8 @@ pub struct Matrix4x4 {
 // How many floats a matrix is.
 pub const MATRIX_FLOATS: usize = 16;
 
-// The row whose floats start at a place.
+// The row whose floats start at a place, and not at a slice's start: over `&s[at..]` the matrix would owe a lemma for each row,
+// that place i of the rest is place at + i.
 fn row_from(s: &[f32], at: usize) -> Row
     requires { at + 4 ≤ length s.now }
     ensures { result ≡ row_from s.now at }

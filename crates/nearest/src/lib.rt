@@ -77,7 +77,7 @@ fn nearest_among(
     Ok(best)
 }
 
-// Where a ray first meets a list of curves.
+// Where a ray first meets a list of curves. The matrices and the ray come one by one, as to `intersect`.
 pub fn nearest(
     list: &[f32],
     object_to_world: Matrix4x4,

@@ -3,12 +3,14 @@
 // of two equal entries is.
 #![tactic(auto)]
 
-ghost use Rattle.std.specs.Prelude.{◌≡◌, IsTrue, slice_index};
-ghost use Rattle.pivot.specs.Pivot.{none_taken, look_entry, look_along, pivot_of};
+ghost use Rattle.std.specs.Prelude.{◌≡◌};
+ghost use Rattle.pivot.specs.Pivot.{look_entry, look_along, pivot_of};
 
 mod line;
+mod marks;
 
 pub use line::Line;
+pub use marks::{FIRST, LATER, Marks};
 
 // The pivot found so far: big, irow and icol.
 #[derive(Clone, Copy, Debug, PartialEq)]
@@ -17,12 +19,6 @@ pub struct Pivot {
     pub row: Line,
     pub col: Line,
 }
-
-// For the first turn: no column is taken, and it is quicker where no mark is asked for.
-pub const FIRST: bool = true;
-
-// For a later turn, by its marks.
-pub const LATER: bool = false;
 
 // The entry x, which is not taken, after the best so far. A NaN is told apart first, which abs would do anyway: so nothing
 // that follows has to reckon with one.
@@ -39,23 +35,14 @@ fn look(best: Pivot, row: Line, col: Line, x: f32) -> Pivot
     best
 }
 
-// How often a column, or a row, was taken. In the first turn the marks are not read.
-fn mark<const IS_FIRST: bool>(ipiv: &[usize; 4], line: Line) -> usize
-    requires { IsTrue IS_FIRST → ipiv.now ≡ none_taken }
-    ensures { result ≡ slice_index ipiv.now line }
-{
-    if IS_FIRST { 0 } else { ipiv[line.at()] }
-}
-
 // A row's entries after the best so far.
-fn look_along<const IS_FIRST: bool>(p: Pivot, m: &[f32; 16], ipiv: &[usize; 4], row: Line) -> Pivot
-    requires { IsTrue IS_FIRST → ipiv.now ≡ none_taken }
+fn look_along<const TURN: usize>(p: Pivot, m: &[f32; 16], ipiv: &Marks<TURN>, row: Line) -> Pivot
     ensures { result ≡ look_along p m.now ipiv.now row }
 {
     let mut best = p;
     for k in 0..4 {
         let col = Line::new(k);
-        if mark::<IS_FIRST>(ipiv, col) == 0 {
+        if ipiv.mark(col) == 0 {
             best = look(best, row, col, m[4 * row.at() + k]);
         }
     }
@@ -63,8 +50,7 @@ fn look_along<const IS_FIRST: bool>(p: Pivot, m: &[f32; 16], ipiv: &[usize; 4], 
 }
 
 // The pivot of a turn.
-pub fn find_pivot<const IS_FIRST: bool>(m: &[f32; 16], ipiv: &[usize; 4]) -> Pivot
-    requires { IsTrue IS_FIRST → ipiv.now ≡ none_taken }
+pub fn find_pivot<const TURN: usize>(m: &[f32; 16], ipiv: &Marks<TURN>) -> Pivot
     ensures { result ≡ pivot_of m.now ipiv.now }
 {
     let mut best = Pivot {
@@ -74,8 +60,8 @@ pub fn find_pivot<const IS_FIRST: bool>(m: &[f32; 16], ipiv: &[usize; 4]) -> Piv
     };
     for j in 0..4 {
         let row = Line::new(j);
-        if mark::<IS_FIRST>(ipiv, row) != 1 {
-            best = look_along::<IS_FIRST>(best, m, ipiv, row);
+        if ipiv.mark(row) != 1 {
+            best = look_along(best, m, ipiv, row);
         }
     }
     best
