@@ -40,10 +40,8 @@ pub extern "C" fn curve_object_bound(piece: &[f32], out: &mut [f32; BOUNDS_FLOAT
     ensures value { result ≡ status_of (object_bound piece.now) }
     ensures out_after { out.new ≡ bound_after (object_bound piece.now) out.old }
 {
-    put(
-        measure::object_bound(piece).map(<[f32; BOUNDS_FLOATS]>::from),
-        out,
-    )
+    let bound = measure::object_bound(piece);
+    put(bound.map(<[f32; BOUNDS_FLOATS]>::from), out)
 }
 
 #[unsafe(no_mangle)]

@@ -18,9 +18,6 @@ after_turn n l l' k e h =
           (set-le l k (get_or l k 0 + 1) j (n + 1) (omega (arith, h.each j)) (omega (arith, h.each k)));
     }
 
-pub relaxed : {n : ℕ} {l : List ℕ} → n ≤ 3 → AtMost n l → AtMost 3 l
-relaxed l h = record { each = λ j. omega (arith, h.each j) }
-
 none_at : (j : ℕ) → get_or none_taken j 0 ≤ 0
 none_at zero = omega arith
 none_at (suc zero) = omega arith

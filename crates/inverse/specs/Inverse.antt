@@ -5,7 +5,7 @@ use Rattle.float.specs.Arith.{◌⊖◌, ◌⊗◌, ◌⊘◌, 0f, 1f}
 use Rattle.pivot.specs.declared.Pivot.{Pivot}
 use Rattle.pivot.specs.Pivot.{Matrix, at, none_taken, pivot_of}
 
--- For functions inside: no column was taken more than n times.
+-- For the proof of `invert`: no column was taken more than n times.
 pub record AtMost (n : ℕ) (ipiv : List ℕ) : Type 0 where
   pub each : (k : ℕ) → get_or ipiv k 0 ≤ n
 

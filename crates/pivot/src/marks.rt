@@ -49,14 +49,23 @@ impl<const TURN: usize> Marks<TURN> {
             self.taken[line.at()]
         }
     }
+}
 
-    // The marks after a turn that takes a column.
-    pub fn take(&self, col: Line) -> Marks<LATER>
-        requires { slice_index self.now col < 4 }
-        ensures { result ≡ slice_set self.now col (slice_index self.now col + 1) }
+impl Marks<LATER> {
+    // After the first turn, which takes a column.
+    pub fn after(col: Line) -> Marks<LATER>
+        ensures { result ≡ slice_set none_taken col 1 }
     {
-        let mut taken = self.taken;
-        taken[col.at()] += 1;
+        let mut taken = [0; 4];
+        taken[col.at()] = 1;
         Marks { taken }
+    }
+
+    // A turn takes a column.
+    pub fn take(&mut self, col: Line)
+        requires { slice_index self.old col < 4 }
+        ensures { self.new ≡ slice_set self.old col (slice_index self.old col + 1) }
+    {
+        self.taken[col.at()] += 1;
     }
 }
