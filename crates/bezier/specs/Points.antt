@@ -4,6 +4,8 @@ use Rattle.std.specs.Float.{nan}
 use Rattle.geometry.specs.Point.{point_from}
 use Rattle.geometry.specs.Vector.{vector_from}
 use Rattle.bezier.specs.declared.axis.Axis.{Axis}
+use Rattle.bezier.specs.declared.axis.Coordinate.{Coordinate}
+use Rattle.bezier.specs.declared.axis.Coordinate.TheVariants.{X, Y, Z, Fourth}
 use Rattle.bezier.specs.declared.cubic.Cubic.{Cubic}
 use Rattle.bezier.specs.declared.cubic.Eval.{Eval}
 use Rattle.bezier.specs.declared.points.PaddedPoint.{PaddedPoint}
@@ -29,6 +31,13 @@ abbrev pub derivative_at : ℕ
 derivative_at = 4
 
 -- ----
+
+-- how far behind a point's first float a coordinate lies
+abbrev pub coordinate_number : Coordinate → ℕ
+coordinate_number X = 0
+coordinate_number Y = 1
+coordinate_number Z = 2
+coordinate_number Fourth = 3
 
 -- a coordinate of the points: 0 is x, 1 is y, 2 is z, and 3 the one that nothing asks for
 unfoldable pub axis_in : List Float → ℕ → Axis

@@ -9,7 +9,7 @@ mod extent;
 mod points;
 mod polygon;
 
-pub use axis::{Axis, part};
+pub use axis::{Axis, Coordinate, part};
 pub use corners::{Corners, corners_of};
 pub use cubic::{Cubic, Eval};
 pub use extent::{ANY, Extent, NUMBERS, extent_of, max};

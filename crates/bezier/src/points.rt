@@ -7,10 +7,10 @@
 ghost use Rattle.std.specs.Prelude.{◌≡◌, ◌+◌, ◌≤◌, if◌then◌else◌};
 ghost use Rattle.float.specs.Arith.{◌⊗◌, 3f};
 ghost use Rattle.bezier.specs.Cubic.{low_of, high_of, eval_of};
-ghost use Rattle.bezier.specs.Points.{axis_in, cubic_in, eval_in, padded_in};
+ghost use Rattle.bezier.specs.Points.{axis_in, coordinate_number, cubic_in, eval_in, padded_in};
 ghost use Rattle.bezier.specs.Polygon.{cubic_of};
 
-use crate::axis::{Axis, Step, eval_at, subdivide};
+use crate::axis::{Axis, Coordinate, Step, eval_at, subdivide};
 use crate::cubic::{Cubic, Eval};
 use geometry::{point_from, vector_from};
 
@@ -25,7 +25,7 @@ pub const P2: usize = 8;
 pub const P3: usize = 12;
 
 // One of the points, with its fourth float.
-#[derive(Clone, Copy)]
+#[derive(Clone, Copy, Debug, PartialEq)]
 pub struct PaddedPoint {
     pub x: f32,
     pub y: f32,
@@ -56,11 +56,11 @@ pub fn points_by(x: Axis, y: Axis, z: Axis, fourth: Axis) -> [f32; POINTS]
     ]
 }
 
-// A coordinate of the points: 0 is x, 1 is y, 2 is z, and 3 the one that nothing asks for.
-pub fn axis_in(p: &[f32; POINTS], k: usize) -> Axis
-    requires { k ≤ 3 }
-    ensures { result ≡ axis_in p.now k }
+// A coordinate of the points.
+pub fn axis_in(p: &[f32; POINTS], c: Coordinate) -> Axis
+    ensures { result ≡ axis_in p.now (coordinate_number c) }
 {
+    let k = c.number();
     Axis {
         p0: p[P0 + k],
         p1: p[P1 + k],
@@ -99,10 +99,10 @@ pub fn subdivide_bezier(p: &[f32; POINTS]) -> ([f32; POINTS], [f32; POINTS])
     ensures low { cubic_in result.0 ≡ low_of (cubic_in p.now) }
     ensures high { cubic_in result.1 ≡ high_of (cubic_in p.now) }
 {
-    let x = subdivide(axis_in(p, 0));
-    let y = subdivide(axis_in(p, 1));
-    let z = subdivide(axis_in(p, 2));
-    let fourth = subdivide(axis_in(p, 3));
+    let x = subdivide(axis_in(p, Coordinate::X));
+    let y = subdivide(axis_in(p, Coordinate::Y));
+    let z = subdivide(axis_in(p, Coordinate::Z));
+    let fourth = subdivide(axis_in(p, Coordinate::Fourth));
     (
         points_by(x.0, y.0, z.0, fourth.0),
         points_by(x.1, y.1, z.1, fourth.1),
@@ -127,10 +127,10 @@ fn derivative(s: Step, moves: bool) -> f32
 pub fn eval_bezier(p: &[f32; POINTS], u: f32) -> [f32; EVAL]
     ensures { eval_in result ≡ eval_of (cubic_in p.now) u }
 {
-    let x = eval_at(axis_in(p, 0), u);
-    let y = eval_at(axis_in(p, 1), u);
-    let z = eval_at(axis_in(p, 2), u);
-    let fourth = eval_at(axis_in(p, 3), u);
+    let x = eval_at(axis_in(p, Coordinate::X), u);
+    let y = eval_at(axis_in(p, Coordinate::Y), u);
+    let z = eval_at(axis_in(p, Coordinate::Z), u);
+    let fourth = eval_at(axis_in(p, Coordinate::Fourth), u);
     let moves = x.d * x.d + y.d * y.d + z.d * z.d > 0.0;
     [
         x.p,
