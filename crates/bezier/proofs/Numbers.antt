@@ -1,9 +1,8 @@
 -- Numbers and NaNs in `min` and `max`. Assumes nothing.
-use mathlib.Core.Path.{◌≡◌, refl, sym, subst, ◌∙◌}
+use mathlib.Core.Path.{◌≡◌, refl, sym, subst}
 use mathlib.Core.Bool.{Bool, true, false, ◌||◌, cond, true≢false}
-use lib.Ieee.{Float, lt, ne, is_nan}
+use lib.Ieee.{Float, lt, is_nan}
 use Rattle.float.specs.Basic.{max_of, min_of}
-use Rattle.float.proofs.Compare.{itself}
 use Rattle.float.proofs.Order.{number_before, number_behind}
 use Rattle.bezier.specs.declared.corners.Corners.{Corners}
 use Rattle.bezier.specs.declared.extent.Extent.{Extent}

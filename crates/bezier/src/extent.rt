@@ -15,7 +15,8 @@ pub struct Extent {
     pub greatest: f32,
 }
 
-// `min` and `max`. Where the first is known to be a number, one comparison is enough.
+// `min` and `max`. Where the first is known to be a number, one comparison is enough. One function for both would be told
+// which, and turn the comparison and the call by it: no line fewer.
 fn min<const IS_NUMBER: bool>(a: f32, b: f32) -> f32
     requires { IsTrue IS_NUMBER → is_nan a ≡ false }
     ensures { result ≡ min_of a b }

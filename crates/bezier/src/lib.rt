@@ -13,5 +13,5 @@ pub use axis::{Axis, Coordinate, part};
 pub use corners::{Corners, corners_of};
 pub use cubic::{Cubic, Eval};
 pub use extent::{ANY, Extent, NUMBERS, extent_of, max};
-pub use points::{EVAL, POINTS, axis_in, eval_bezier, points_by, subdivide_bezier};
+pub use points::{POINTS, axis_in, eval_bezier, points_by, subdivide_bezier};
 pub use polygon::chords;

@@ -2,17 +2,17 @@
 // arithmetic with the others, so that a point is one load, one instruction and one store; points of three floats would be
 // taken apart and put together at every step (a `Cubic` that is lent in its place: a beam thrown out and deep +4 %, box
 // +9 %). Nothing else knows the places.
-#![tactic(auto, unfolding(crate::specs::Points::axis_in, crate::specs::Points::padded_in, crate::specs::Points::cubic_in, crate::specs::Points::eval_in, crate::specs::Polygon::cubic_of, geometry::specs::Point::point_from, geometry::specs::Vector::vector_from))]
+#![tactic(auto, unfolding(crate::specs::Points::axis_in, crate::specs::Points::padded_in, crate::specs::Points::cubic_in, crate::specs::Polygon::cubic_of, geometry::specs::Point::point_from))]
 
 ghost use Rattle.std.specs.Prelude.{◌≡◌, ◌+◌, ◌≤◌, if◌then◌else◌};
 ghost use Rattle.float.specs.Arith.{◌⊗◌, 3f};
 ghost use Rattle.bezier.specs.Cubic.{low_of, high_of, eval_of};
-ghost use Rattle.bezier.specs.Points.{axis_in, coordinate_number, cubic_in, eval_in, padded_in};
+ghost use Rattle.bezier.specs.Points.{axis_in, coordinate_number, cubic_in, padded_in};
 ghost use Rattle.bezier.specs.Polygon.{cubic_of};
 
 use crate::axis::{Axis, Coordinate, Step, eval_at, subdivide};
 use crate::cubic::{Cubic, Eval};
-use geometry::{point_from, vector_from};
+use geometry::{Point3f, Vector3f, point_from};
 
 pub const POINTS: usize = 16;
 
@@ -33,7 +33,8 @@ pub struct PaddedPoint {
     pub fourth: f32,
 }
 
-// The point whose floats start at a place.
+// The point whose floats start at a place. `row_from` of `matrix` reads four floats too, but a row is no point, and neither
+// crate stands on the other.
 pub fn padded_in(p: &[f32; POINTS], at: usize) -> PaddedPoint
     requires { at + 4 ≤ 16 }
     ensures { result ≡ padded_in p.now at }
@@ -56,7 +57,7 @@ pub fn points_by(x: Axis, y: Axis, z: Axis, fourth: Axis) -> [f32; POINTS]
     ]
 }
 
-// A coordinate of the points.
+// A coordinate of the points. (`axis_in` of `curve`, of points of three floats, says why there are two.)
 pub fn axis_in(p: &[f32; POINTS], c: Coordinate) -> Axis
     ensures { result ≡ axis_in p.now (coordinate_number c) }
 {
@@ -109,13 +110,6 @@ pub fn subdivide_bezier(p: &[f32; POINTS]) -> ([f32; POINTS], [f32; POINTS])
     )
 }
 
-// The point and the derivative of eval_bezier, four floats each.
-pub const EVAL: usize = 8;
-
-const POINT: usize = 0;
-
-const DERIVATIVE: usize = 4;
-
 // A coordinate of the derivative, by whether the last two points of the construction differ.
 fn derivative(s: Step, moves: bool) -> f32
     ensures { result ≡ (if moves then s.d ⊗ 3f else s.chord) }
@@ -124,33 +118,23 @@ fn derivative(s: Step, moves: bool) -> f32
 }
 
 // The derivative comes from the last two points of the construction. Where they coincide it is the chord.
-pub fn eval_bezier(p: &[f32; POINTS], u: f32) -> [f32; EVAL]
-    ensures { eval_in result ≡ eval_of (cubic_in p.now) u }
+pub fn eval_bezier(p: &[f32; POINTS], u: f32) -> Eval
+    ensures { result ≡ eval_of (cubic_in p.now) u }
 {
     let x = eval_at(axis_in(p, Coordinate::X), u);
     let y = eval_at(axis_in(p, Coordinate::Y), u);
     let z = eval_at(axis_in(p, Coordinate::Z), u);
-    let fourth = eval_at(axis_in(p, Coordinate::Fourth), u);
     let moves = x.d * x.d + y.d * y.d + z.d * z.d > 0.0;
-    [
-        x.p,
-        y.p,
-        z.p,
-        fourth.p,
-        derivative(x, moves),
-        derivative(y, moves),
-        derivative(z, moves),
-        derivative(fourth, moves),
-    ]
-}
-
-impl From<&[f32; EVAL]> for Eval {
-    ghost from_gives = { λ e at. at ≡ eval_in e.now };
-
-    fn from(e: &[f32; EVAL]) -> Eval {
-        Eval {
-            p: point_from(e, POINT),
-            d: vector_from(e, DERIVATIVE),
-        }
+    Eval {
+        p: Point3f {
+            x: x.p,
+            y: y.p,
+            z: z.p,
+        },
+        d: Vector3f {
+            x: derivative(x, moves),
+            y: derivative(y, moves),
+            z: derivative(z, moves),
+        },
     }
 }

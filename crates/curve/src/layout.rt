@@ -33,7 +33,8 @@ const UMIN: usize = 14;
 const UMAX: usize = 15;
 
 // A coordinate of the segment's control points. The fourth is what comes behind each point, for the place that nothing
-// asks for.
+// asks for. The points lie three floats apart, and those of `bezier`'s `axis_in` four: one function for both would be told
+// how many, and ask that they are four at most, so that it stays within the sixteen.
 #[tactic(auto, unfolding(crate::specs::Layout::axis_from))]
 fn axis_in(floats: &[f32; FLOATS], c: Coordinate) -> Axis
     ensures { result ≡ axis_from floats.now (coordinate_number c) }
@@ -55,6 +56,7 @@ fn part_in(floats: &[f32; FLOATS], c: Coordinate) -> Axis
     part(axis_in(floats, c), floats[UMIN], floats[UMAX])
 }
 
+// `Cubic::from` of `bezier` reads points of four floats, and this those of three. What they share is `point_from`.
 #[tactic(auto, unfolding(crate::specs::Layout::cubic_from))]
 fn cubic_in(floats: &[f32; FLOATS]) -> Cubic
     ensures { result ≡ cubic_from floats.now }
@@ -174,7 +176,8 @@ impl CurveRef<'_> {
         )
     }
 
-    /// Those of the part from umin to umax, in the same form: the Rust's cpobj.
+    /// Those of the part from umin to umax, in the same form: the Rust's cpobj. One function for both would take which
+    /// coordinates as a flag or a closure, and its clause would choose by that: longer than the call that they share.
     #[tactic(auto, using(crate::proofs::Records::curve_by_axes))]
     pub fn control_points(&self) -> [f32; POINTS]
         ensures { cubic_in result ≡ control_points self.now }
