@@ -1,9 +1,8 @@
 -- Numbers and NaNs in `min` and `max`. Assumes nothing.
-use mathlib.Core.Path.{◌≡◌, refl, sym, subst, ◌∙◌}
+use mathlib.Core.Path.{◌≡◌, refl, sym, subst}
 use mathlib.Core.Bool.{Bool, true, false, ◌||◌, cond, true≢false}
-use lib.Ieee.{Float, lt, ne, is_nan}
+use lib.Ieee.{Float, lt, is_nan}
 use Rattle.float.specs.Basic.{max_of, min_of}
-use Rattle.float.proofs.Compare.{itself}
 use Rattle.float.proofs.Order.{number_before, number_behind}
 use Rattle.bezier.specs.declared.corners.Corners.{Corners}
 use Rattle.bezier.specs.declared.extent.Extent.{Extent}
@@ -11,22 +10,17 @@ use Rattle.bezier.specs.declared.points.PaddedPoint.{PaddedPoint}
 use Rattle.bezier.specs.Corners.{AllNumbers, corners_with}
 use Rattle.bezier.specs.Extent.{extent_at, extent_union, extent_with, Numbers}
 
-neither : (p q : Bool) → p || q ≡ false → (p ≡ false) × (q ≡ false)
+-- where a test of two, or of four, fails, each of them does
+pub neither : (p q : Bool) → p || q ≡ false → (p ≡ false) × (q ≡ false)
 neither true q e = absurd (true≢false e)
 neither false q e = (refl, e)
 
--- past the test for a NaN both are numbers, or all
-pub both_numbers : (a b : Float) → ne a a || ne b b ≡ false → (is_nan a ≡ false) × (is_nan b ≡ false)
-both_numbers a b e =
-    let h = neither (ne a a) (ne b b) e in
-    (itself a ∙ h.0, itself b ∙ h.1)
-
-pub all_numbers : (a b c d : Float) → ne a a || ne b b || ne c c || ne d d ≡ false → (is_nan a ≡ false) × (is_nan b ≡ false) × (is_nan c ≡ false) × (is_nan d ≡ false)
-all_numbers a b c d e =
-    let h = neither (ne a a || ne b b || ne c c) (ne d d) e in
-    let k = neither (ne a a || ne b b) (ne c c) h.0 in
-    let n = both_numbers a b k.0 in
-    (n.0, n.1, itself c ∙ k.1, itself d ∙ h.1)
+pub none_of_four : (p q r s : Bool) → p || q || r || s ≡ false → (p ≡ false) × (q ≡ false) × (r ≡ false) × (s ≡ false)
+none_of_four p q r s e =
+    let h = neither (p || q || r) s e in
+    let k = neither (p || q) r h.0 in
+    let n = neither p q k.0 in
+    (n.0, n.1, k.1, h.1)
 
 -- what is picked is a number, if b is one where the test says so
 picks : (a b : Float) (t : Bool) → is_nan a ≡ false → (t ≡ true → is_nan b ≡ false) → is_nan (cond (is_nan a || t) b a) ≡ false

@@ -2,10 +2,10 @@
 use Rattle.std.specs.Prelude.{ℕ, ◌+◌, List, get_or, Float}
 use Rattle.std.specs.Float.{nan}
 use Rattle.geometry.specs.Point.{point_from}
-use Rattle.geometry.specs.Vector.{vector_from}
 use Rattle.bezier.specs.declared.axis.Axis.{Axis}
+use Rattle.bezier.specs.declared.axis.Coordinate.{Coordinate}
+use Rattle.bezier.specs.declared.axis.Coordinate.TheVariants.{X, Y, Z, Fourth}
 use Rattle.bezier.specs.declared.cubic.Cubic.{Cubic}
-use Rattle.bezier.specs.declared.cubic.Eval.{Eval}
 use Rattle.bezier.specs.declared.points.PaddedPoint.{PaddedPoint}
 
 -- ---- the places
@@ -22,13 +22,14 @@ p2_at = 8
 abbrev pub p3_at : ℕ
 p3_at = 12
 
-abbrev pub point_at : ℕ
-point_at = 0
-
-abbrev pub derivative_at : ℕ
-derivative_at = 4
-
 -- ----
+
+-- how far behind a point's first float a coordinate lies
+abbrev pub coordinate_number : Coordinate → ℕ
+coordinate_number X = 0
+coordinate_number Y = 1
+coordinate_number Z = 2
+coordinate_number Fourth = 3
 
 -- a coordinate of the points: 0 is x, 1 is y, 2 is z, and 3 the one that nothing asks for
 unfoldable pub axis_in : List Float → ℕ → Axis
@@ -40,6 +41,3 @@ padded_in l at = record { x = get_or l at nan; y = get_or l (at + 1) nan; z = ge
 
 unfoldable pub cubic_in : List Float → Cubic
 cubic_in l = record { p0 = point_from l p0_at; p1 = point_from l p1_at; p2 = point_from l p2_at; p3 = point_from l p3_at }
-
-unfoldable pub eval_in : List Float → Eval
-eval_in l = record { p = point_from l point_at; d = vector_from l derivative_at }

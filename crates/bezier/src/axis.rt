@@ -2,10 +2,30 @@
 // and four of them side by side (`points`) become one instruction.
 #![tactic(auto, unfolding(crate::specs::Axis::blossom_at, crate::specs::Axis::between, crate::specs::Axis::average_at2, crate::specs::Axis::average_at3, crate::specs::Axis::average_at4, crate::specs::Axis::low_at, crate::specs::Axis::high_at, crate::specs::Axis::eval_at))]
 
-ghost use Rattle.std.specs.Prelude.{◌≡◌};
+ghost use Rattle.std.specs.Prelude.{◌≡◌, ◌≤◌};
 ghost use Rattle.bezier.specs.Axis.{blossom_at, between, average_at2, average_at3, average_at4, low_at, high_at, eval_at};
+ghost use Rattle.bezier.specs.Points.{coordinate_number};
 
 use geometry::lerp;
+
+// Which of a point's floats: the fourth is the one that nothing asks for.
+#[derive(Clone, Copy, Debug, PartialEq, Eq)]
+pub enum Coordinate {
+    X = 0,
+    Y = 1,
+    Z = 2,
+    Fourth = 3,
+}
+
+impl Coordinate {
+    // How far behind a point's first float it lies.
+    pub fn number(self) -> usize
+        ensures value { result ≡ coordinate_number self }
+        ensures within { result ≤ 3 }
+    {
+        self as usize
+    }
+}
 
 #[derive(Clone, Copy, Debug, PartialEq)]
 pub struct Axis {

@@ -17,18 +17,21 @@ pub struct Corners {
     pub fourth: Extent,
 }
 
-impl Corners {
-    fn from_point(p: PaddedPoint) -> Corners
-        ensures { result ≡ corners_at p }
-    {
+// Of one point.
+impl From<PaddedPoint> for Corners {
+    ghost from_gives = { λ p c. c ≡ corners_at p };
+
+    fn from(p: PaddedPoint) -> Corners {
         Corners {
-            x: Extent::from_value(p.x),
-            y: Extent::from_value(p.y),
-            z: Extent::from_value(p.z),
-            fourth: Extent::from_value(p.fourth),
+            x: Extent::from(p.x),
+            y: Extent::from(p.y),
+            z: Extent::from(p.z),
+            fourth: Extent::from(p.fourth),
         }
     }
+}
 
+impl Corners {
     fn union_point<const ARE_NUMBERS: bool>(self, p: PaddedPoint) -> Corners
         requires { IsTrue ARE_NUMBERS → AllNumbers self }
         ensures { result ≡ corners_with self p }
@@ -53,8 +56,8 @@ pub fn corners_of(p: &[f32; POINTS]) -> Corners
     let p1 = padded_in(p, P1);
     let p2 = padded_in(p, P2);
     let p3 = padded_in(p, P3);
-    let first = Corners::from_point(p0);
-    if (p0.x != p0.x) | (p0.y != p0.y) | (p0.z != p0.z) | (p0.fourth != p0.fourth) {
+    let first = Corners::from(p0);
+    if p0.x.is_nan() | p0.y.is_nan() | p0.z.is_nan() | p0.fourth.is_nan() {
         first
             .union_point::<ANY>(p1)
             .union_point::<ANY>(p2)

@@ -15,7 +15,8 @@ pub struct Extent {
     pub greatest: f32,
 }
 
-// `min` and `max`. Where the first is known to be a number, one comparison is enough.
+// `min` and `max`. Where the first is known to be a number, one comparison is enough. One function for both would be told
+// which, and turn the comparison and the call by it: no line fewer.
 fn min<const IS_NUMBER: bool>(a: f32, b: f32) -> f32
     requires { IsTrue IS_NUMBER → is_nan a ≡ false }
     ensures { result ≡ min_of a b }
@@ -44,16 +45,19 @@ pub const NUMBERS: bool = true;
 
 pub const ANY: bool = false;
 
-impl Extent {
-    pub fn from_value(v: f32) -> Extent
-        ensures { result ≡ extent_at v }
-    {
+// Of one value.
+impl From<f32> for Extent {
+    ghost from_gives = { λ v e. e ≡ extent_at v };
+
+    fn from(v: f32) -> Extent {
         Extent {
             least: v,
             greatest: v,
         }
     }
+}
 
+impl Extent {
     // Of two together.
     fn union_extent<const ARE_NUMBERS: bool>(self, e: Extent) -> Extent
         requires { IsTrue ARE_NUMBERS → Numbers self }
@@ -69,7 +73,7 @@ impl Extent {
         requires { IsTrue ARE_NUMBERS → Numbers self }
         ensures { result ≡ extent_with self v }
     {
-        self.union_extent::<ARE_NUMBERS>(Extent::from_value(v))
+        self.union_extent::<ARE_NUMBERS>(Extent::from(v))
     }
 }
 
@@ -80,15 +84,15 @@ pub fn extent_of(a: Axis) -> Extent
     ensures least_value { result.least ≡ least_in a }
     ensures greatest_value { result.greatest ≡ greatest_in a }
 {
-    if (a.p0 != a.p0) | (a.p2 != a.p2) {
-        let first = Extent::from_value(a.p0);
+    if a.p0.is_nan() | a.p2.is_nan() {
+        let first = Extent::from(a.p0);
         first
             .union_value::<ANY>(a.p1)
             .union_value::<ANY>(a.p2)
             .union_value::<ANY>(a.p3)
     } else {
-        let first = Extent::from_value(a.p0).union_value::<NUMBERS>(a.p1);
-        let second = Extent::from_value(a.p2).union_value::<NUMBERS>(a.p3);
+        let first = Extent::from(a.p0).union_value::<NUMBERS>(a.p1);
+        let second = Extent::from(a.p2).union_value::<NUMBERS>(a.p3);
         first.union_extent::<NUMBERS>(second)
     }
 }

@@ -9,9 +9,9 @@ mod extent;
 mod points;
 mod polygon;
 
-pub use axis::{Axis, part};
+pub use axis::{Axis, Coordinate, part};
 pub use corners::{Corners, corners_of};
 pub use cubic::{Cubic, Eval};
 pub use extent::{ANY, Extent, NUMBERS, extent_of, max};
-pub use points::{EVAL, POINTS, axis_in, eval_bezier, points_by, subdivide_bezier};
+pub use points::{POINTS, axis_in, eval_bezier, points_by, subdivide_bezier};
 pub use polygon::chords;

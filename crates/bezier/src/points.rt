@@ -2,17 +2,17 @@
 // arithmetic with the others, so that a point is one load, one instruction and one store; points of three floats would be
 // taken apart and put together at every step (a `Cubic` that is lent in its place: a beam thrown out and deep +4 %, box
 // +9 %). Nothing else knows the places.
-#![tactic(auto, unfolding(crate::specs::Points::axis_in, crate::specs::Points::padded_in, crate::specs::Points::cubic_in, crate::specs::Points::eval_in, crate::specs::Polygon::cubic_of, geometry::specs::Point::point_from, geometry::specs::Vector::vector_from))]
+#![tactic(auto, unfolding(crate::specs::Points::axis_in, crate::specs::Points::padded_in, crate::specs::Points::cubic_in, crate::specs::Polygon::cubic_of, geometry::specs::Point::point_from))]
 
 ghost use Rattle.std.specs.Prelude.{◌≡◌, ◌+◌, ◌≤◌, if◌then◌else◌};
 ghost use Rattle.float.specs.Arith.{◌⊗◌, 3f};
 ghost use Rattle.bezier.specs.Cubic.{low_of, high_of, eval_of};
-ghost use Rattle.bezier.specs.Points.{axis_in, cubic_in, eval_in, padded_in};
+ghost use Rattle.bezier.specs.Points.{axis_in, coordinate_number, cubic_in, padded_in};
 ghost use Rattle.bezier.specs.Polygon.{cubic_of};
 
-use crate::axis::{Axis, Step, eval_at, subdivide};
+use crate::axis::{Axis, Coordinate, Step, eval_at, subdivide};
 use crate::cubic::{Cubic, Eval};
-use geometry::{point_from, vector_from};
+use geometry::{Point3f, Vector3f, point_from};
 
 pub const POINTS: usize = 16;
 
@@ -25,7 +25,7 @@ pub const P2: usize = 8;
 pub const P3: usize = 12;
 
 // One of the points, with its fourth float.
-#[derive(Clone, Copy)]
+#[derive(Clone, Copy, Debug, PartialEq)]
 pub struct PaddedPoint {
     pub x: f32,
     pub y: f32,
@@ -33,7 +33,8 @@ pub struct PaddedPoint {
     pub fourth: f32,
 }
 
-// The point whose floats start at a place.
+// The point whose floats start at a place. `row_from` of `matrix` reads four floats too, but a row is no point, and neither
+// crate stands on the other.
 pub fn padded_in(p: &[f32; POINTS], at: usize) -> PaddedPoint
     requires { at + 4 ≤ 16 }
     ensures { result ≡ padded_in p.now at }
@@ -56,11 +57,11 @@ pub fn points_by(x: Axis, y: Axis, z: Axis, fourth: Axis) -> [f32; POINTS]
     ]
 }
 
-// A coordinate of the points: 0 is x, 1 is y, 2 is z, and 3 the one that nothing asks for.
-pub fn axis_in(p: &[f32; POINTS], k: usize) -> Axis
-    requires { k ≤ 3 }
-    ensures { result ≡ axis_in p.now k }
+// A coordinate of the points. (`axis_in` of `curve`, of points of three floats, says why there are two.)
+pub fn axis_in(p: &[f32; POINTS], c: Coordinate) -> Axis
+    ensures { result ≡ axis_in p.now (coordinate_number c) }
 {
+    let k = c.number();
     Axis {
         p0: p[P0 + k],
         p1: p[P1 + k],
@@ -99,22 +100,15 @@ pub fn subdivide_bezier(p: &[f32; POINTS]) -> ([f32; POINTS], [f32; POINTS])
     ensures low { cubic_in result.0 ≡ low_of (cubic_in p.now) }
     ensures high { cubic_in result.1 ≡ high_of (cubic_in p.now) }
 {
-    let x = subdivide(axis_in(p, 0));
-    let y = subdivide(axis_in(p, 1));
-    let z = subdivide(axis_in(p, 2));
-    let fourth = subdivide(axis_in(p, 3));
+    let x = subdivide(axis_in(p, Coordinate::X));
+    let y = subdivide(axis_in(p, Coordinate::Y));
+    let z = subdivide(axis_in(p, Coordinate::Z));
+    let fourth = subdivide(axis_in(p, Coordinate::Fourth));
     (
         points_by(x.0, y.0, z.0, fourth.0),
         points_by(x.1, y.1, z.1, fourth.1),
     )
 }
-
-// The point and the derivative of eval_bezier, four floats each.
-pub const EVAL: usize = 8;
-
-const POINT: usize = 0;
-
-const DERIVATIVE: usize = 4;
 
 // A coordinate of the derivative, by whether the last two points of the construction differ.
 fn derivative(s: Step, moves: bool) -> f32
@@ -124,33 +118,23 @@ fn derivative(s: Step, moves: bool) -> f32
 }
 
 // The derivative comes from the last two points of the construction. Where they coincide it is the chord.
-pub fn eval_bezier(p: &[f32; POINTS], u: f32) -> [f32; EVAL]
-    ensures { eval_in result ≡ eval_of (cubic_in p.now) u }
+pub fn eval_bezier(p: &[f32; POINTS], u: f32) -> Eval
+    ensures { result ≡ eval_of (cubic_in p.now) u }
 {
-    let x = eval_at(axis_in(p, 0), u);
-    let y = eval_at(axis_in(p, 1), u);
-    let z = eval_at(axis_in(p, 2), u);
-    let fourth = eval_at(axis_in(p, 3), u);
+    let x = eval_at(axis_in(p, Coordinate::X), u);
+    let y = eval_at(axis_in(p, Coordinate::Y), u);
+    let z = eval_at(axis_in(p, Coordinate::Z), u);
     let moves = x.d * x.d + y.d * y.d + z.d * z.d > 0.0;
-    [
-        x.p,
-        y.p,
-        z.p,
-        fourth.p,
-        derivative(x, moves),
-        derivative(y, moves),
-        derivative(z, moves),
-        derivative(fourth, moves),
-    ]
-}
-
-impl From<&[f32; EVAL]> for Eval {
-    ghost from_gives = { λ e at. at ≡ eval_in e.now };
-
-    fn from(e: &[f32; EVAL]) -> Eval {
-        Eval {
-            p: point_from(e, POINT),
-            d: vector_from(e, DERIVATIVE),
-        }
+    Eval {
+        p: Point3f {
+            x: x.p,
+            y: y.p,
+            z: z.p,
+        },
+        d: Vector3f {
+            x: derivative(x, moves),
+            y: derivative(y, moves),
+            z: derivative(z, moves),
+        },
     }
 }

@@ -50,7 +50,8 @@ fn cubic_spline(p012: Point3f, p123: Point3f, p234: Point3f, p345: Point3f) -> C
     }
 }
 
-// The segment whose first coordinate is the float `at`.
+// The segment whose first coordinate is the float `at`. The points go with a place, and not as their rest, `points[at..]`:
+// the definitions read one list by places, and a rest would owe for each point that it is read alike.
 #[tactic(auto, unfolding(crate::specs::Basis::segment_at, crate::specs::Basis::bezier_segment, crate::specs::Basis::spline_segment))]
 pub fn segment(points: &[f32], shape: Shape, at: usize) -> Cubic
     requires { at + 3 * degree_number shape.degree + 3 ≤ length points.now }

@@ -34,7 +34,7 @@ fn is_count_wrong(floats: usize, degree: Degree, basis: Basis) -> bool
     }
 }
 
-// Whether point i equals the next one.
+// Whether point i equals the next one. By its number, as the definition has it: see `segment` for the rest of a slice.
 #[tactic(auto, unfolding(crate::specs::Create::equals_next, geometry::specs::Point::points_equal))]
 fn equals_next(points: &[f32], i: usize) -> bool
     requires { 3 * i + 6 ≤ length points.now }
@@ -49,12 +49,7 @@ fn neighbours_differ(points: &[f32]) -> bool
     ensures { result ≡ neighbours_differ points.now }
 {
     let pairs = (points.len() / 3).saturating_sub(1);
-    for i in 0..pairs {
-        if equals_next(points, i) {
-            return false;
-        }
-    }
-    true
+    (0..pairs).all(|i| !equals_next(points, i))
 }
 
 fn is_all_within(points: &[f32]) -> bool

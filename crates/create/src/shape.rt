@@ -66,7 +66,7 @@ impl TryFrom<u32> for Basis {
 }
 
 // Flat, and with a split depth that passed refusal 5.
-#[derive(Clone, Copy)]
+#[derive(Clone, Copy, Debug, PartialEq)]
 pub struct Shape {
     pub degree: Degree,
     pub basis: Basis,

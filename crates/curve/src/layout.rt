@@ -1,11 +1,12 @@
 // The layout of a curve's record: which of its floats is what, and how many there are. Everything else goes by these
 // names (specs/Layout has them for the definitions).
-ghost use Rattle.std.specs.Prelude.{◌≡◌, ◌≤◌};
+ghost use Rattle.std.specs.Prelude.{◌≡◌, ◌≤◌, length};
+ghost use Rattle.bezier.specs.Points.{coordinate_number};
 ghost use Rattle.curve.specs.Layout.{axis_from, cubic_from, curve_from, curve_floats};
 ghost use Rattle.curve.specs.Curve.{is_curve, coordinate_of};
 
 use crate::curve::{Curve, is_in_limits};
-use bezier::{Axis, Cubic, POINTS, part, points_by};
+use bezier::{Axis, Coordinate, Cubic, POINTS, part, points_by};
 use geometry::{lerp, point_from};
 use limits::Refusal;
 use std::marker::Model;
@@ -31,13 +32,14 @@ const UMIN: usize = 14;
 
 const UMAX: usize = 15;
 
-// A coordinate of the segment's control points: 0 is x, 1 is y, 2 is z, and 3 is what comes behind each point, for the
-// place that nothing asks for.
+// A coordinate of the segment's control points. The fourth is what comes behind each point, for the place that nothing
+// asks for. The points lie three floats apart, and those of `bezier`'s `axis_in` four: one function for both would be told
+// how many, and ask that they are four at most, so that it stays within the sixteen.
 #[tactic(auto, unfolding(crate::specs::Layout::axis_from))]
-fn axis_in(floats: &[f32; FLOATS], k: usize) -> Axis
-    requires { k ≤ 3 }
-    ensures { result ≡ axis_from floats.now k }
+fn axis_in(floats: &[f32; FLOATS], c: Coordinate) -> Axis
+    ensures { result ≡ axis_from floats.now (coordinate_number c) }
 {
+    let k = c.number();
     Axis {
         p0: floats[P0 + k],
         p1: floats[P1 + k],
@@ -48,13 +50,13 @@ fn axis_in(floats: &[f32; FLOATS], k: usize) -> Axis
 
 // The same of the part from umin to umax.
 #[tactic(auto, unfolding(crate::specs::Curve::coordinate_of))]
-fn part_in(floats: &[f32; FLOATS], k: usize) -> Axis
-    requires { k ≤ 3 }
-    ensures { result ≡ coordinate_of floats.now k }
+fn part_in(floats: &[f32; FLOATS], c: Coordinate) -> Axis
+    ensures { result ≡ coordinate_of floats.now (coordinate_number c) }
 {
-    part(axis_in(floats, k), floats[UMIN], floats[UMAX])
+    part(axis_in(floats, c), floats[UMIN], floats[UMAX])
 }
 
+// `Cubic::from` of `bezier` reads points of four floats, and this those of three. What they share is `point_from`.
 #[tactic(auto, unfolding(crate::specs::Layout::cubic_from))]
 fn cubic_in(floats: &[f32; FLOATS]) -> Cubic
     ensures { result ≡ cubic_from floats.now }
@@ -94,8 +96,8 @@ impl From<Curve> for [f32; FLOATS] {
 }
 
 /// A curve's record where it lies, which a walk lends to every step: to read the floats into a `Curve` costs a box and a
-/// beam that is thrown out 3 to 8 % more. A clause sees the `Curve` that they are.
-#[derive(Drop)]
+/// beam that is thrown out 3 to 8 % more. A clause sees the `Curve` that they are; no `PartialEq` is derived where it does.
+#[derive(Debug, Drop)]
 pub struct CurveRef<'a> {
     floats: &'a [f32; FLOATS],
 }
@@ -107,6 +109,22 @@ impl<'a> Model for CurveRef<'a> {
     ghost Value = { Curve };
 
     ghost view = { λ r. curve_from r.floats.now };
+}
+
+impl<'a> CurveRef<'a> {
+    ghost use Rattle.curve.specs.Layout.{floats};
+
+    /// The record at the start of a slice: any sixteen floats, also such that are no curve within the limits.
+    #[tactic(auto, using(crate::proofs::Records::curve_at_start))]
+    pub fn new(s: &'a [f32]) -> CurveRef<'a>
+        requires { floats ≤ length s.now }
+        ensures { result ≡ curve_from s.now }
+    {
+        match s.first_chunk() {
+            Some(floats) => CurveRef { floats },
+            None => unreachable!(),
+        }
+    }
 }
 
 #[tactic(auto, unfolding(crate::specs::Layout::curve_from, crate::specs::Curve::width_at))]
@@ -151,24 +169,25 @@ impl CurveRef<'_> {
     {
         let floats = self.floats;
         points_by(
-            axis_in(floats, 0),
-            axis_in(floats, 1),
-            axis_in(floats, 2),
-            axis_in(floats, 3),
+            axis_in(floats, Coordinate::X),
+            axis_in(floats, Coordinate::Y),
+            axis_in(floats, Coordinate::Z),
+            axis_in(floats, Coordinate::Fourth),
         )
     }
 
-    /// Those of the part from umin to umax, in the same form: the Rust's cpobj.
+    /// Those of the part from umin to umax, in the same form: the Rust's cpobj. One function for both would take which
+    /// coordinates as a flag or a closure, and its clause would choose by that: longer than the call that they share.
     #[tactic(auto, using(crate::proofs::Records::curve_by_axes))]
     pub fn control_points(&self) -> [f32; POINTS]
         ensures { cubic_in result ≡ control_points self.now }
     {
         let floats = self.floats;
         points_by(
-            part_in(floats, 0),
-            part_in(floats, 1),
-            part_in(floats, 2),
-            part_in(floats, 3),
+            part_in(floats, Coordinate::X),
+            part_in(floats, Coordinate::Y),
+            part_in(floats, Coordinate::Z),
+            part_in(floats, Coordinate::Fourth),
         )
     }
 }

@@ -80,7 +80,7 @@ fn cross_at(
 {
     let u = clamp(lerp(w, u0, u1), u0, u1);
     let hit_width = curve.width_at(u);
-    let pc = Eval::from(&eval_bezier(p, clamp(w, 0.0, 1.0)));
+    let pc = eval_bezier(p, clamp(w, 0.0, 1.0));
     let dist2 = pc.p.x * pc.p.x + pc.p.y * pc.p.y;
     if (dist2 > hit_width * hit_width * 0.25) | (pc.p.z < 0.0) | (pc.p.z > view.zmax) {
         None
@@ -156,7 +156,7 @@ fn along(d: Vector3f, dpdu: Vector3f, dpdv: Vector3f) -> Result<Frame, Refusal>
 fn frame_at(curve: &CurveRef<'_>, view: &View, u: f32) -> Result<Frame, Refusal>
     ensures { result ≡ frame_of curve.now view.now u }
 {
-    let at = Eval::from(&eval_bezier(&curve.segment_points(), u));
+    let at = eval_bezier(&curve.segment_points(), u);
     let zero = Vector3f {
         x: 0.0,
         y: 0.0,

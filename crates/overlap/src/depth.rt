@@ -31,7 +31,7 @@ fn largest_of(a: Point3f, b: Point3f, c: Point3f) -> f32
     let x = second_difference(a.x, b.x, c.x);
     let y = second_difference(a.y, b.y, c.y);
     let z = second_difference(a.z, b.z, c.z);
-    if x != x {
+    if x.is_nan() {
         largest_of_three::<ANY>(x, y, z)
     } else {
         largest_of_three::<NUMBERS>(x, y, z)

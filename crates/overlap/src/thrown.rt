@@ -5,7 +5,7 @@ ghost use Rattle.std.specs.Prelude.{◌≡◌, if◌then◌else◌};
 ghost use Rattle.bezier.specs.Points.{cubic_in};
 ghost use Rattle.overlap.specs.Thrown.{half_width, is_off, is_off_z_whole, is_thrown_by, is_whole_thrown_by};
 
-use bezier::{Axis, POINTS, axis_in, extent_of};
+use bezier::{Axis, Coordinate, POINTS, axis_in, extent_of};
 use curve::CurveRef;
 
 // Half the larger of the widths at a subcurve's ends.
@@ -34,7 +34,7 @@ fn is_off<const HAS_PLUS: bool>(a: Axis, w: f32, limit: f32) -> bool
 pub fn is_thrown<const IS_WHOLE: bool>(w: f32, zmax: f32, p: &[f32; POINTS]) -> bool
     ensures { result ≡ (if IS_WHOLE then is_whole_thrown_by w zmax (cubic_in p.now) else is_thrown_by w zmax (cubic_in p.now)) }
 {
-    is_off::<HALF>(axis_in(p, 1), w, 0.0)
-        || is_off::<HALF>(axis_in(p, 0), w, 0.0)
-        || is_off::<IS_WHOLE>(axis_in(p, 2), w, zmax)
+    is_off::<HALF>(axis_in(p, Coordinate::Y), w, 0.0)
+        || is_off::<HALF>(axis_in(p, Coordinate::X), w, 0.0)
+        || is_off::<IS_WHOLE>(axis_in(p, Coordinate::Z), w, zmax)
 }

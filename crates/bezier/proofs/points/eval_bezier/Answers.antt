@@ -1,9 +1,5 @@
-use Rattle.geometry.specs.Point.{point_from}
-use Rattle.geometry.specs.Vector.{vector_from}
-use Rattle.bezier.specs.Points.{eval_in}
 use Rattle.bezier.proofs.Transposed.{eval_by_axes}
 use Rattle.bezier.proofs.points.eval_bezier.Goals as goal
 
 pub returns : goal.returns
-unfolding eval_in point_from vector_from
 returns c = rw (eval_by_axes, ← c.axis_in.ensures, ← c.axis_in-2.ensures, ← c.axis_in-3.ensures, ← c.eval_at-x.ensures, ← c.eval_at-y.ensures, ← c.eval_at-z.ensures, c.derivative.ensures, c.derivative-2.ensures, c.derivative-3.ensures)

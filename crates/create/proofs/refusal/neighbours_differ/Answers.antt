@@ -1,28 +1,16 @@
-use Rattle.std.proofs.Common.{◌≡◌, ℕ, ◌-◌, ◌/◌, Bool, not, List, length, refl, sym, ap, ◌∙◌, arith}
-use lib.Ieee.{Float}
+use Rattle.std.proofs.Common.{ℕ, not, refl, ap, ◌∙◌, rules, tests, arith}
+use Rattle.std.proofs.lemmas.Iterator.{YieldsList-from_range}
+use Rattle.std.proofs.lemmas.Iterator.Search.{all_from_yields_List}
 use Rattle.limits.specs.Below.{all_below}
-use Rattle.limits.proofs.Below.{all_next, all_fails}
 use Rattle.create.specs.Create.{equals_next, neighbours_differ}
+use Rattle.create.proofs.AllWithin.{all_below-list}
 use Rattle.create.proofs.refusal.neighbours_differ.Goals as goal
-
--- point i does not equal the next one
-abbrev P : List Float → ℕ → Bool
-P l i = not (equals_next l i)
-
-pub loop-i-init : goal.loop-i-init
-unfolding all_below
-loop-i-init c = refl
-
-pub returns-then-equals_next : goal.returns-then-equals_next
-unfolding neighbours_differ
-returns-then-equals_next c =
-    sym (all_fails _ (P c.args.points.now) c.loop-i.i (omega (arith, c.saturating_sub-pairs.ensures)) (ap not (sym c.equals_next.ensures ∙ c.if-equals_next.true)))
-
-pub loop-i-preserved : goal.loop-i-preserved
-loop-i-preserved c = all_next (P c.args.points.now) c.loop-i.i c.loop-i.invariant (ap not (sym c.equals_next.ensures ∙ c.if-equals_next.false))
 
 pub returns : goal.returns
 unfolding neighbours_differ
 returns c =
-    let all : c.loop-i.i ≡ length c.args.points.now / 3 - 1 = omega (arith, c.saturating_sub-pairs.ensures) in
-    sym (rw (← all) c.loop-i.invariant)
+    let differs = λ (i : ℕ). not (equals_next c.args.points.now i) in
+    let n = c.saturating_sub-pairs.result in
+    all_from_yields_List differs _ _ c.all.result c.all.ensures.ran (YieldsList-from_range 0 n n refl (omega arith)) (λ x b q k. search (rules, tests))
+    ∙ all_below-list n differs
+    ∙ ap (λ k. all_below k differs) c.saturating_sub-pairs.ensures
