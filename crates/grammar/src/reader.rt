@@ -1,7 +1,7 @@
 // A reader over a sheet that is lent: it takes a line, and stands behind it.
 ghost use Rattle.std.specs.Prelude.{◌≡◌, ◌+◌, ◌*◌, ◌^◌, ◌<◌, ◌≤◌, ◌&&◌, length, max, IsTrue, IfSome};
 ghost use Rattle.limits.specs.List.{over};
-ghost use Rattle.grammar.specs.Grammar.{decimal_digit_at, decimal_at, word_line_at, decimal_line, word_line, either_line, type_line, float_size, separator, is_floats, float_at, floats_at, row_size, row_key, row_floats, row_line, line_at, rows_from, floats_from};
+ghost use Rattle.grammar.specs.Grammar.{decimal_digit_at, decimal_at, word_line_at, decimal_line, word_line, either_line, type_line, float_size, separator, is_floats, float_at, floats_at, row_size, row_key, row_floats, row_line, field_line, line_at, rows_from, floats_from};
 ghost use Rattle.grammar.specs.Reader.{reader_behind, reader_after};
 ghost use Rattle.text.specs.Bytes.{byte_is, is_word};
 
@@ -41,16 +41,22 @@ impl Row {
     }
 }
 
-/// The kinds of lines: those of the head in their order, and rows.
+/// The lines of the head. The number of each is how many lines stand before it.
+#[derive(Clone, Copy, Debug, PartialEq, Eq)]
+pub enum Field {
+    Degree = 0,
+    Basis = 1,
+    Type = 2,
+    Width0 = 3,
+    Width1 = 4,
+    SplitDepth = 5,
+    Reverse = 6,
+}
+
+/// The kinds of lines.
 #[derive(Clone, Copy, Debug, PartialEq, Eq)]
 pub enum Kind {
-    Degree,
-    Basis,
-    Type,
-    Width0,
-    Width1,
-    SplitDepth,
-    Reverse,
+    Field(Field),
     Row(Row),
 }
 
@@ -240,19 +246,28 @@ impl<'a> Reader<'a> {
         }
     }
 
-    // The line of a kind that starts here.
+    // A match, since each has its own form.
     #[tactic(auto, unfolding(text::specs::Ascii::ascii))]
+    fn field_line(self, field: Field) -> Option<Line>
+        ensures { result ≡ field_line self.entry.src.now field self.entry.at }
+    {
+        match field {
+            Field::Degree => self.decimal_line(b"degree="),
+            Field::Basis => self.either_line(b"basis=bezier\n", b"basis=bspline\n"),
+            Field::Type => self.type_line(),
+            Field::Width0 => self.word_line(b"width0="),
+            Field::Width1 => self.word_line(b"width1="),
+            Field::SplitDepth => self.decimal_line(b"splitdepth="),
+            Field::Reverse => self.either_line(b"reverse=0\n", b"reverse=1\n"),
+        }
+    }
+
+    // The line of a kind that starts here.
     fn line(self, kind: Kind) -> Option<Line>
         ensures { result ≡ line_at self.entry.src.now kind self.entry.at }
     {
         match kind {
-            Kind::Degree => self.decimal_line(b"degree="),
-            Kind::Basis => self.either_line(b"basis=bezier\n", b"basis=bspline\n"),
-            Kind::Type => self.type_line(),
-            Kind::Width0 => self.word_line(b"width0="),
-            Kind::Width1 => self.word_line(b"width1="),
-            Kind::SplitDepth => self.decimal_line(b"splitdepth="),
-            Kind::Reverse => self.either_line(b"reverse=0\n", b"reverse=1\n"),
+            Kind::Field(field) => self.field_line(field),
             Kind::Row(row) => self.row_line(row),
         }
     }
