@@ -21,7 +21,8 @@ pub enum Row {
 impl Row {
     #[tactic(auto, unfolding(text::specs::Ascii::ascii))]
     fn key(self) -> &'static [u8]
-        ensures { result.now ≡ row_key self }
+        ensures value { result.now ≡ row_key self }
+        ensures some { 0 < length result.now }
     {
         match self {
             Row::Point => b"point=",
@@ -68,7 +69,8 @@ pub struct Line {
 }
 
 /// The sheet that is lent, and the place where its next line starts.
-#[derive(Clone, Copy)]
+// Not the rest of the sheet from there: places in the whole are what a wrong line tells and what the contracts speak of.
+#[derive(Clone, Copy, Debug, PartialEq, Eq)]
 pub struct Reader<'a> {
     pub src: &'a [u8],
     pub at: usize,
@@ -117,6 +119,7 @@ impl<'a> Reader<'a> {
     #[tactic(auto, unfolding(crate::specs::Reader::reader_behind))]
     fn behind(self, word: &[u8]) -> Option<Reader<'a>>
         ensures value { result ≡ reader_behind self.entry word.now }
+        ensures within { 0 < length word.now → IfSome result (λ r. r.at ≤ length self.entry.src.now) }
     {
         if stands_at(self.src, self.at, word) {
             Some(Reader {
@@ -216,18 +219,10 @@ impl<'a> Reader<'a> {
 
     // Whether n floats stand here, each with what stands behind it.
     fn are_floats(self, n: usize) -> bool
-        requires { n ≤ 8 }
-        ensures value { result ≡ is_floats self.entry.src.now self.entry.at n }
-        ensures within { IsTrue result → self.entry.at + n * float_size ≤ max self.entry.at (length self.entry.src.now) }
+        requires { self.at + n * float_size < 2 ^ 64 }
+        ensures { result ≡ is_floats self.entry.src.now self.entry.at n }
     {
-        let mut at = self.at;
-        for i in 0..n {
-            if !is_float(self.src, at, separator(n, i)) {
-                return false;
-            }
-            at += FLOAT_SIZE;
-        }
-        true
+        (0..n).all(|i| is_float(self.src, self.at + i * FLOAT_SIZE, separator(n, i)))
     }
 
     #[tactic(auto, unfolding(crate::specs::Grammar::row_line, crate::specs::Grammar::row_at, crate::specs::Grammar::is_row, crate::specs::Grammar::row_size, crate::specs::Reader::reader_behind))]
@@ -293,6 +288,7 @@ impl<'a> Reader<'a> {
             ≡ over out.old 0 (floats_from self.old.src.now self.old.at (row_key row) (row_floats row) result) }
     {
         let n = row.floats();
+        // By ranges: of the parts that `chunks_exact_mut` lends a proof knows how long they are, and not what was put into them.
         for j in 0..most {
             let Some(line) = self.take(Kind::Row(row)) else {
                 return j;

@@ -27,7 +27,7 @@ const HEAD_LINES: usize = 7;
 
 /// What an accepted sheet holds: how many curves were put into the list, the reverse flag, and how many
 /// rays, with eight floats for each, the rest 0: memory is fixed.
-#[derive(Clone, Copy)]
+#[derive(Clone, Copy, Debug, PartialEq)]
 pub struct Sheet {
     pub pieces: u32,
     pub reverse: bool,
