@@ -1,9 +1,9 @@
 -- The floats of a row, and how far rows reach. Assumes nothing.
 use mathlib.Core.Bool.{Bool, true, false, cond, ◌&&◌}
-use mathlib.Core.Path.{◌≡◌, refl, sym, ap, ◌∙◌}
+use mathlib.Core.Path.{◌≡◌, refl, sym, ap, ◌∙◌, fun_ext}
 use mathlib.Core.List.{List, ◌++◌, append-nil}
 use Prim.Native.Nat.{ℕ, zero, suc, ◌+◌, ◌-◌, ◌*◌, ◌<◌, ◌≤◌}
-use native.Mathlib.Nat.{not-suc-le-zero, le_of_suc-le-suc, le_refl, le_trans, le_of_eq, zero-add, suc-mul, mul-le-mul}
+use native.Mathlib.Nat.{add-zero, not-suc-le-zero, le_of_suc-le-suc, le_refl, le_trans, le_of_eq, zero-add, suc-mul, mul-le-mul}
 use native.Mathlib.Numerals.{add-one}
 use native.Mathlib.Omega.{arith}
 use lib.Ieee.{Float, nan}
@@ -12,11 +12,13 @@ use lib.Seq.{paste, paste-suc, take_all}
 use borrow.Rule.Slice.PartMut.{put_mid}
 use Rattle.std.proofs.lemmas.List.{drop_all}
 use Rattle.std.proofs.lemmas.Slice.{put_mid-paste}
+use Rattle.std.specs.List.{list_all, range_with_len}
 use Rattle.std.specs.Prelude.{Some, None}
+use Rattle.limits.specs.Below.{all_below}
 use Rattle.limits.specs.List.{over, up_to}
 use Rattle.limits.proofs.Lists.{over_next, over-length, paste_over}
-use Rattle.text.specs.Bytes.{byte_is, is_word}
-use Rattle.grammar.specs.Grammar.{right, float_size, separator, float_stands, is_row, row_size, float_at, floats_at, row_at, row_key, row_floats, row_line, row_stands, floats_in}
+use Rattle.text.proofs.Places.{all_below-first}
+use Rattle.grammar.specs.Grammar.{right, float_size, is_row, row_size, float_at, floats_at, row_at, row_key, row_floats, row_line, row_stands, floats_in}
 use Rattle.grammar.specs.declared.reader.Line.{Line}
 use Rattle.grammar.specs.declared.reader.Reader.{Reader}
 use Rattle.grammar.specs.declared.reader.Row.{Row}
@@ -55,8 +57,17 @@ floats_put l at d x n i e f h =
 
 -- ---- the floats of a row that are looked at
 
-pub float_told : (l : List ℕ) (at n i from b : ℕ) (r : Bool) → from ≡ at + i * float_size → b ≡ separator n i → r ≡ (is_word l from && byte_is l (from + 8) b) → float_stands l at n i ≡ r
-float_told l at n i from b r e f g = rw (← e, ← f) (sym g)
+-- each number from a on, and each below n
+all_from : (P : ℕ → Bool) (a n : ℕ) → list_all P (range_with_len a n) ≡ all_below n (λ k. P (a + k))
+unfolding all_below
+all_from P a zero = refl
+all_from P a (suc n) =
+    ap (λ (b : Bool). P a && b) (all_from P (a + 1) n ∙ ap (all_below n) (fun_ext (λ k. ap P (let e : a + 1 + k ≡ a + suc k = omega arith in e))))
+    ∙ ap (λ (i : ℕ). P i && all_below n (λ k. P (a + suc k))) (sym (add-zero a))
+    ∙ sym (all_below-first n (λ k. P (a + k)))
+
+pub all_in_range : (P : ℕ → Bool) (n : ℕ) → list_all P (range_with_len 0 n) ≡ all_below n P
+all_in_range P n = all_from P 0 n ∙ ap (all_below n) (fun_ext (λ k. ap P (zero-add k)))
 
 -- ---- a row that was taken
 

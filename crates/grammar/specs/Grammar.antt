@@ -11,6 +11,8 @@ use Rattle.text.specs.Bytes.{◌>>=◌, byte_is, stands_at, digit_at, is_word, w
 use Rattle.grammar.specs.declared.reader.Line.{Line}
 use Rattle.grammar.specs.declared.reader.Row.{Row}
 use Rattle.grammar.specs.declared.reader.Row.TheVariants as row
+use Rattle.grammar.specs.declared.reader.Field.{Field}
+use Rattle.grammar.specs.declared.reader.Field.TheVariants as field
 use Rattle.grammar.specs.declared.reader.Kind.{Kind}
 use Rattle.grammar.specs.declared.reader.Kind.TheVariants as kind
 
@@ -127,15 +129,19 @@ row_line l row at = row_at l at (row_key row) (row_floats row)
 
 -- ---- a line of any kind
 
+-- a line of the head
+abbrev pub field_line : List ℕ → Field → ℕ → Option Line
+field_line l field.Degree at = decimal_line l at (ascii "degree=")
+field_line l field.Basis at = either_line l at (ascii "basis=bezier\n") (ascii "basis=bspline\n")
+field_line l field.«Type» at = type_line l at
+field_line l field.Width0 at = word_line l at (ascii "width0=")
+field_line l field.Width1 at = word_line l at (ascii "width1=")
+field_line l field.SplitDepth at = decimal_line l at (ascii "splitdepth=")
+field_line l field.Reverse at = either_line l at (ascii "reverse=0\n") (ascii "reverse=1\n")
+
 -- the line that starts at a place: its value, and the place behind its LF
 abbrev pub line_at : List ℕ → Kind → ℕ → Option Line
-line_at l kind.Degree at = decimal_line l at (ascii "degree=")
-line_at l kind.Basis at = either_line l at (ascii "basis=bezier\n") (ascii "basis=bspline\n")
-line_at l kind.«Type» at = type_line l at
-line_at l kind.Width0 at = word_line l at (ascii "width0=")
-line_at l kind.Width1 at = word_line l at (ascii "width1=")
-line_at l kind.SplitDepth at = decimal_line l at (ascii "splitdepth=")
-line_at l kind.Reverse at = either_line l at (ascii "reverse=0\n") (ascii "reverse=1\n")
+line_at l (kind.Field field) at = field_line l field at
 line_at l (kind.Row row) at = row_line l row at
 
 -- ---- rows, one behind the other

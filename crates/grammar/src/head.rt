@@ -1,8 +1,8 @@
 // A sheet's head: seven lines in a fixed order.
 ghost use Rattle.std.specs.Prelude.{◌≡◌, ◌<◌, IfOk, IfErr};
-ghost use Rattle.grammar.specs.Head.{field_at, head_of};
+ghost use Rattle.grammar.specs.Head.{lines_before, field_at, head_of};
 
-use crate::reader::{Kind, Line, Reader};
+use crate::reader::{Field, Kind, Line, Reader};
 
 /// What the lines say, widths as their bits, and the place behind them.
 // Numbers, as create_curve_shape is given them, which tells those that it refuses.
@@ -25,16 +25,19 @@ pub struct WrongLine {
     pub lines: usize,
 }
 
-// A line behind so many that are right.
+// A line behind those that stand before it, which are right.
 #[tactic(auto, unfolding(crate::specs::Head::field_at))]
-fn take_field(reader: &mut Reader<'_>, kind: Kind, lines: usize) -> Result<Line, WrongLine>
-    ensures value { result ≡ field_at reader.old.src.now kind lines reader.old.at }
+fn take_field(reader: &mut Reader<'_>, field: Field) -> Result<Line, WrongLine>
+    ensures value { result ≡ field_at reader.old.src.now field reader.old.at }
     ensures src { reader.new.src.now ≡ reader.old.src.now }
     ensures next { IfOk result (λ line. reader.new.at ≡ line.next) }
-    ensures lines { IfErr result (λ wrong. wrong.lines ≡ lines) }
+    ensures lines { IfErr result (λ wrong. wrong.lines ≡ lines_before field) }
 {
     let at = reader.at;
-    reader.take(kind).ok_or(WrongLine { at, lines })
+    let lines = field as usize;
+    reader
+        .take(Kind::Field(field))
+        .ok_or(WrongLine { at, lines })
 }
 
 /// Reads the head of a sheet.
@@ -44,13 +47,13 @@ pub fn read_head(s: &[u8]) -> Result<Head, WrongLine>
     ensures few { IfErr result (λ wrong. wrong.lines < 7) }
 {
     let mut reader = Reader { src: s, at: 0 };
-    let degree = take_field(&mut reader, Kind::Degree, 0)?;
-    let basis = take_field(&mut reader, Kind::Basis, 1)?;
-    let ty = take_field(&mut reader, Kind::Type, 2)?;
-    let width0 = take_field(&mut reader, Kind::Width0, 3)?;
-    let width1 = take_field(&mut reader, Kind::Width1, 4)?;
-    let splitdepth = take_field(&mut reader, Kind::SplitDepth, 5)?;
-    let reverse = take_field(&mut reader, Kind::Reverse, 6)?;
+    let degree = take_field(&mut reader, Field::Degree)?;
+    let basis = take_field(&mut reader, Field::Basis)?;
+    let ty = take_field(&mut reader, Field::Type)?;
+    let width0 = take_field(&mut reader, Field::Width0)?;
+    let width1 = take_field(&mut reader, Field::Width1)?;
+    let splitdepth = take_field(&mut reader, Field::SplitDepth)?;
+    let reverse = take_field(&mut reader, Field::Reverse)?;
     Ok(Head {
         degree: degree.value,
         basis: basis.value,

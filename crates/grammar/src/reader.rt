@@ -1,7 +1,7 @@
 // A reader over a sheet that is lent: it takes a line, and stands behind it.
 ghost use Rattle.std.specs.Prelude.{◌≡◌, ◌+◌, ◌*◌, ◌^◌, ◌<◌, ◌≤◌, ◌&&◌, length, max, IsTrue, IfSome};
 ghost use Rattle.limits.specs.List.{over};
-ghost use Rattle.grammar.specs.Grammar.{decimal_digit_at, decimal_at, word_line_at, decimal_line, word_line, either_line, type_line, float_size, separator, is_floats, float_at, floats_at, row_size, row_key, row_floats, row_line, line_at, rows_from, floats_from};
+ghost use Rattle.grammar.specs.Grammar.{decimal_digit_at, decimal_at, word_line_at, decimal_line, word_line, either_line, type_line, float_size, separator, is_floats, float_at, floats_at, row_size, row_key, row_floats, row_line, field_line, line_at, rows_from, floats_from};
 ghost use Rattle.grammar.specs.Reader.{reader_behind, reader_after};
 ghost use Rattle.text.specs.Bytes.{byte_is, is_word};
 
@@ -21,7 +21,8 @@ pub enum Row {
 impl Row {
     #[tactic(auto, unfolding(text::specs::Ascii::ascii))]
     fn key(self) -> &'static [u8]
-        ensures { result.now ≡ row_key self }
+        ensures value { result.now ≡ row_key self }
+        ensures some { 0 < length result.now }
     {
         match self {
             Row::Point => b"point=",
@@ -41,16 +42,22 @@ impl Row {
     }
 }
 
-/// The kinds of lines: those of the head in their order, and rows.
+/// The lines of the head. The number of each is how many lines stand before it.
+#[derive(Clone, Copy, Debug, PartialEq, Eq)]
+pub enum Field {
+    Degree = 0,
+    Basis = 1,
+    Type = 2,
+    Width0 = 3,
+    Width1 = 4,
+    SplitDepth = 5,
+    Reverse = 6,
+}
+
+/// The kinds of lines.
 #[derive(Clone, Copy, Debug, PartialEq, Eq)]
 pub enum Kind {
-    Degree,
-    Basis,
-    Type,
-    Width0,
-    Width1,
-    SplitDepth,
-    Reverse,
+    Field(Field),
     Row(Row),
 }
 
@@ -62,7 +69,8 @@ pub struct Line {
 }
 
 /// The sheet that is lent, and the place where its next line starts.
-#[derive(Clone, Copy)]
+// Not the rest of the sheet from there: places in the whole are what a wrong line tells and what the contracts speak of.
+#[derive(Clone, Copy, Debug, PartialEq, Eq)]
 pub struct Reader<'a> {
     pub src: &'a [u8],
     pub at: usize,
@@ -111,6 +119,7 @@ impl<'a> Reader<'a> {
     #[tactic(auto, unfolding(crate::specs::Reader::reader_behind))]
     fn behind(self, word: &[u8]) -> Option<Reader<'a>>
         ensures value { result ≡ reader_behind self.entry word.now }
+        ensures within { 0 < length word.now → IfSome result (λ r. r.at ≤ length self.entry.src.now) }
     {
         if stands_at(self.src, self.at, word) {
             Some(Reader {
@@ -210,18 +219,10 @@ impl<'a> Reader<'a> {
 
     // Whether n floats stand here, each with what stands behind it.
     fn are_floats(self, n: usize) -> bool
-        requires { n ≤ 8 }
-        ensures value { result ≡ is_floats self.entry.src.now self.entry.at n }
-        ensures within { IsTrue result → self.entry.at + n * float_size ≤ max self.entry.at (length self.entry.src.now) }
+        requires { self.at + n * float_size < 2 ^ 64 }
+        ensures { result ≡ is_floats self.entry.src.now self.entry.at n }
     {
-        let mut at = self.at;
-        for i in 0..n {
-            if !is_float(self.src, at, separator(n, i)) {
-                return false;
-            }
-            at += FLOAT_SIZE;
-        }
-        true
+        (0..n).all(|i| is_float(self.src, self.at + i * FLOAT_SIZE, separator(n, i)))
     }
 
     #[tactic(auto, unfolding(crate::specs::Grammar::row_line, crate::specs::Grammar::row_at, crate::specs::Grammar::is_row, crate::specs::Grammar::row_size, crate::specs::Reader::reader_behind))]
@@ -240,19 +241,28 @@ impl<'a> Reader<'a> {
         }
     }
 
-    // The line of a kind that starts here.
+    // A match, since each has its own form.
     #[tactic(auto, unfolding(text::specs::Ascii::ascii))]
+    fn field_line(self, field: Field) -> Option<Line>
+        ensures { result ≡ field_line self.entry.src.now field self.entry.at }
+    {
+        match field {
+            Field::Degree => self.decimal_line(b"degree="),
+            Field::Basis => self.either_line(b"basis=bezier\n", b"basis=bspline\n"),
+            Field::Type => self.type_line(),
+            Field::Width0 => self.word_line(b"width0="),
+            Field::Width1 => self.word_line(b"width1="),
+            Field::SplitDepth => self.decimal_line(b"splitdepth="),
+            Field::Reverse => self.either_line(b"reverse=0\n", b"reverse=1\n"),
+        }
+    }
+
+    // The line of a kind that starts here.
     fn line(self, kind: Kind) -> Option<Line>
         ensures { result ≡ line_at self.entry.src.now kind self.entry.at }
     {
         match kind {
-            Kind::Degree => self.decimal_line(b"degree="),
-            Kind::Basis => self.either_line(b"basis=bezier\n", b"basis=bspline\n"),
-            Kind::Type => self.type_line(),
-            Kind::Width0 => self.word_line(b"width0="),
-            Kind::Width1 => self.word_line(b"width1="),
-            Kind::SplitDepth => self.decimal_line(b"splitdepth="),
-            Kind::Reverse => self.either_line(b"reverse=0\n", b"reverse=1\n"),
+            Kind::Field(field) => self.field_line(field),
             Kind::Row(row) => self.row_line(row),
         }
     }
@@ -278,6 +288,7 @@ impl<'a> Reader<'a> {
             ≡ over out.old 0 (floats_from self.old.src.now self.old.at (row_key row) (row_floats row) result) }
     {
         let n = row.floats();
+        // By ranges: of the parts that `chunks_exact_mut` lends a proof knows how long they are, and not what was put into them.
         for j in 0..most {
             let Some(line) = self.take(Kind::Row(row)) else {
                 return j;

@@ -19,6 +19,7 @@ use Rattle.grammar.specs.Head.{field_at, head_of}
 use Rattle.sheet.specs.Written.{Text, IsText, IsWord, basis_of, type_of, line_of, head_text, head_at, head_written}
 use Rattle.std.specs.Prelude.{Option, Ok}
 use Rattle.grammar.specs.declared.reader.Line.{Line}
+use Rattle.grammar.specs.declared.reader.Field.TheVariants as field
 use Rattle.grammar.specs.declared.reader.Kind.TheVariants as kind
 
 -- ---- its lines
@@ -112,13 +113,13 @@ type_line_lem l at (suc (suc (suc n))) r h b = absurd (omega arith)
 -- the seven lines, each from where the one before it ends
 head_is :
     (l : List ℕ) (t : Text) (a b c d e f g : ℕ)
-    → line_at l kind.Degree 0 ≡ right t.degree a
-    → line_at l kind.Basis a ≡ right t.basis b
-    → line_at l kind.«Type» b ≡ right t.ty c
-    → line_at l kind.Width0 c ≡ right t.width0 d
-    → line_at l kind.Width1 d ≡ right t.width1 e
-    → line_at l kind.SplitDepth e ≡ right t.splitdepth f
-    → line_at l kind.Reverse f ≡ right t.reverse g
+    → line_at l (kind.Field field.Degree) 0 ≡ right t.degree a
+    → line_at l (kind.Field field.Basis) a ≡ right t.basis b
+    → line_at l (kind.Field field.«Type») b ≡ right t.ty c
+    → line_at l (kind.Field field.Width0) c ≡ right t.width0 d
+    → line_at l (kind.Field field.Width1) d ≡ right t.width1 e
+    → line_at l (kind.Field field.SplitDepth) e ≡ right t.splitdepth f
+    → line_at l (kind.Field field.Reverse) f ≡ right t.reverse g
     → head_of l ≡ Ok (head_at t g)
 unfolding head_of field_at
 head_is l t a b c d e f g p q r s u v w = rw (p, q, r, s, u, v, w)

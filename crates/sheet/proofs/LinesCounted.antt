@@ -24,11 +24,12 @@ use Rattle.create.specs.Create.{limit_refusals, create_refusals, curve_count, cr
 use Rattle.create.specs.declared.create.Params.{Params}
 use Rattle.std.specs.Prelude.{Option, Some, None, Result, Ok, Err, is_ok}
 use Rattle.grammar.specs.Grammar.{most_bytes, line_feed, is_row, row_size, point_key, ray_key, run_below, rows_from}
-use Rattle.grammar.specs.Head.{◌>>=◌, field_at, head_of, head_end, head_lines_right}
+use Rattle.grammar.specs.Head.{◌>>=◌, lines_before, field_at, head_of, head_end, head_lines_right}
 use Rattle.grammar.specs.declared.head.Head.{Head}
 use Rattle.grammar.specs.declared.head.WrongLine.{WrongLine}
 use Rattle.grammar.specs.declared.reader.Line.{Line}
-use Rattle.grammar.specs.declared.reader.Kind.{Kind}
+use Rattle.grammar.specs.declared.reader.Field.{Field}
+use Rattle.grammar.specs.declared.reader.Field.TheVariants as field
 use Rattle.grammar.specs.declared.reader.Kind.TheVariants as kind
 use Rattle.grammar.proofs.Heads.{field_either}
 use Rattle.grammar.proofs.Runs.{run-passes}
@@ -76,20 +77,20 @@ line_behind l n at next h b = (feeds_line l at next h ∙ ap (λ (k : ℕ). k + 
 abbrev Counted : List ℕ → Result Head WrongLine → Type 0
 Counted l head = Behind l (head_lines_right head) (head_end head)
 
-field_counted : (l : List ℕ) (kind : Kind) (lines at : ℕ) (f : Line → Result Head WrongLine) → Behind l lines at → ((line : Line) → Behind l (lines + 1) line.next → Counted l (f line)) → Counted l (field_at l kind lines at >>= f)
-field_counted l kind lines at f b g =
-    field_either (Counted l) l kind lines at f (λ line e. g line (line_behind l lines at line.next (subst (Ends l at) e (line_ends l kind at)) b)) (λ _. b)
+field_counted : (l : List ℕ) (field : Field) (at : ℕ) (f : Line → Result Head WrongLine) → Behind l (lines_before field) at → ((line : Line) → Behind l (lines_before field + 1) line.next → Counted l (f line)) → Counted l (field_at l field at >>= f)
+field_counted l field at f b g =
+    field_either (Counted l) l field at f (λ line e. g line (line_behind l (lines_before field) at line.next (subst (Ends l at) e (line_ends l (kind.Field field) at)) b)) (λ _. b)
 
 head_counted : (l : List ℕ) → Counted l (head_of l)
 unfolding head_of feeds_before
 head_counted l =
-    field_counted l kind.Degree 0 0 _ (refl, inl refl)
-    (λ degree a. field_counted l kind.Basis 1 degree.next _ a
-    (λ basis b. field_counted l kind.«Type» 2 basis.next _ b
-    (λ ty c. field_counted l kind.Width0 3 ty.next _ c
-    (λ width0 d. field_counted l kind.Width1 4 width0.next _ d
-    (λ width1 e. field_counted l kind.SplitDepth 5 width1.next _ e
-    (λ splitdepth f. field_counted l kind.Reverse 6 splitdepth.next _ f
+    field_counted l field.Degree 0 _ (refl, inl refl)
+    (λ degree a. field_counted l field.Basis degree.next _ a
+    (λ basis b. field_counted l field.«Type» basis.next _ b
+    (λ ty c. field_counted l field.Width0 ty.next _ c
+    (λ width0 d. field_counted l field.Width1 width0.next _ d
+    (λ width1 e. field_counted l field.SplitDepth width1.next _ e
+    (λ splitdepth f. field_counted l field.Reverse splitdepth.next _ f
     (λ reverse g. g)))))))
 
 -- ---- rows

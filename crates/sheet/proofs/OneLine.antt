@@ -18,6 +18,7 @@ use Rattle.text.proofs.Places.{word_digits}
 use Rattle.grammar.specs.Grammar.{line_feed, comma, right, decimal_digit_at, decimal_at, decimal_line, word_line_at, word_line, either_line, type_line, float_size, separator, is_floats, is_row, row_size, point_key, ray_key, row_at, row_line, line_at}
 use Rattle.std.specs.Prelude.{Option, Some, None, is_some}
 use Rattle.grammar.specs.declared.reader.Line.{Line}
+use Rattle.grammar.specs.declared.reader.Field.TheVariants as field
 use Rattle.grammar.specs.declared.reader.Kind.{Kind}
 use Rattle.grammar.specs.declared.reader.Kind.TheVariants as kind
 use Rattle.grammar.specs.declared.reader.Row.TheVariants as row
@@ -207,12 +208,12 @@ row_ends l at key n f p = ends-cond l at (is_row l at key n) (right n (at + row_
 -- THE LAW: a line of any kind that is right is one line
 pub line_ends : (l : List ℕ) (kind : Kind) (at : ℕ) → Ends l at (line_at l kind at)
 unfolding row_line ascii all_below
-line_ends l kind.Degree at = decimal_line_ends l at (ascii "degree=") refl
-line_ends l kind.Basis at = either-ends l at (ascii "basis=bezier\n") (ascii "basis=bspline\n") 12 13 (refl, refl, refl) (refl, refl, refl)
-line_ends l kind.«Type» at = type_ends l at
-line_ends l kind.Width0 at = word_line_ends l at (ascii "width0=") refl
-line_ends l kind.Width1 at = word_line_ends l at (ascii "width1=") refl
-line_ends l kind.SplitDepth at = decimal_line_ends l at (ascii "splitdepth=") refl
-line_ends l kind.Reverse at = either-ends l at (ascii "reverse=0\n") (ascii "reverse=1\n") 9 9 (refl, refl, refl) (refl, refl, refl)
+line_ends l (kind.Field field.Degree) at = decimal_line_ends l at (ascii "degree=") refl
+line_ends l (kind.Field field.Basis) at = either-ends l at (ascii "basis=bezier\n") (ascii "basis=bspline\n") 12 13 (refl, refl, refl) (refl, refl, refl)
+line_ends l (kind.Field field.«Type») at = type_ends l at
+line_ends l (kind.Field field.Width0) at = word_line_ends l at (ascii "width0=") refl
+line_ends l (kind.Field field.Width1) at = word_line_ends l at (ascii "width1=") refl
+line_ends l (kind.Field field.SplitDepth) at = decimal_line_ends l at (ascii "splitdepth=") refl
+line_ends l (kind.Field field.Reverse) at = either-ends l at (ascii "reverse=0\n") (ascii "reverse=1\n") 9 9 (refl, refl, refl) (refl, refl, refl)
 line_ends l (kind.Row row.Point) at = row_ends l at point_key point_floats refl (lit< tt)
 line_ends l (kind.Row row.Beam) at = row_ends l at ray_key ray_floats refl (lit< tt)

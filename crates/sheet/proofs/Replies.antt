@@ -17,8 +17,9 @@ use Rattle.sheet.specs.declared.SheetRefusal.{SheetRefusal}
 use Rattle.limits.proofs.Lists.{length-up_to}
 use Rattle.grammar.specs.Grammar.{row_size, point_key, ray_key, rows_from, floats_from, room_points}
 use Rattle.geometry.specs.Point.{point_floats}
-use Rattle.sheet.specs.Sheet.{most_rays, rays_from, rays_read, point_count, points_of, rays_at, ray_count, rays_of, lines_right, right_end, is_whole, no_rays, refused_with, params_in, with_curves, sheet_behind, list_behind, sheet_within, list_within}
+use Rattle.sheet.specs.Sheet.{most_rays, rays_from, rays_read, point_count, points_of, rays_at, ray_count, rays_of, lines_right, right_end, is_whole, no_rays, refused_with, params_in, with_curves, sheet_behind, list_behind, sheet_within}
 use Rattle.std.specs.Prelude.{Result, Ok, Err, is_ok}
+use Rattle.std.specs.Result.{MatchResult, IsErrAnd}
 use Rattle.grammar.specs.Head.{head_of}
 use Rattle.grammar.specs.declared.head.WrongLine.{WrongLine}
 use Rattle.grammar.specs.declared.reader.Reader.{Reader}
@@ -93,7 +94,16 @@ module _ (l : List ℕ) (h : Head) (p n : ℕ) (first last : Reader) (rays : Lis
   unfolding lines_right rays_at ray_count
   within_wrong list room r t k = (rw (whole_is, t, ← points_are, ← there) k, rw (whole_is, t))
 
--- a head that is wrong
-pub within_head : (l : List ℕ) (w : WrongLine) (list : List Float) (room : ℕ) (r : Result Sheet SheetRefusal) → Err w ≡ head_of l → r ≡ refused_with refusal.WrongLine (w.lines + 1) → (r ≡ sheet_within l room) × (list ≡ list_within l list)
-unfolding sheet_within list_within lines_right ray_count rays_from point_count
-within_head l w list room r e k = (rw (← e) (k ∙ ap (refused_with refusal.WrongLine) (let same : w.lines + 1 ≡ w.lines + 0 + 0 + 1 = omega arith in same)), rw (← e))
+-- a head that is wrong, as `map_err` tells it
+pub within_head :
+    (l : List ℕ) (room : ℕ) (head : Result Head WrongLine) (told : Result Head SheetRefusal) (e : SheetRefusal) (P : WrongLine → SheetRefusal → Type 0)
+    → head ≡ head_of l → MatchResult head (λ h. told ≡ Ok h) (λ w. IsErrAnd told (P w)) → told ≡ Err e
+    → ((w : WrongLine) (x : SheetRefusal) → P w x → x ≡ record { refusal = refusal.WrongLine; line = w.lines + 1 })
+    → Err e ≡ sheet_within l room
+unfolding sheet_within lines_right ray_count rays_from point_count
+within_head l room (Ok h) told e P q m f g = cc (m, f)
+within_head l room (Err w) (Err x) e P q m f g =
+    let line : w.lines + 1 ≡ w.lines + 0 + 0 + 1 = omega arith in
+    let same : e ≡ x = cc f in
+    rw (← q) (ap Err (same ∙ g w x m ∙ ap (λ n. record { refusal = refusal.WrongLine; line = n }) line))
+within_head l room (Err w) (Ok h) e P q m f g = cc f

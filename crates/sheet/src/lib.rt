@@ -27,7 +27,7 @@ const HEAD_LINES: usize = 7;
 
 /// What an accepted sheet holds: how many curves were put into the list, the reverse flag, and how many
 /// rays, with eight floats for each, the rest 0: memory is fixed.
-#[derive(Clone, Copy)]
+#[derive(Clone, Copy, Debug, PartialEq)]
 pub struct Sheet {
     pub pieces: u32,
     pub reverse: bool,
@@ -130,10 +130,8 @@ fn read_within(s: &[u8], list: &mut [f32]) -> Result<Sheet, SheetRefusal>
     ensures value { result ≡ sheet_within s.now (length list.old) }
     ensures list_after { list.new ≡ list_within s.now list.old }
 {
-    match read_head(s) {
-        Ok(head) => read_behind(s, head, list),
-        Err(wrong) => Err(wrong_line(wrong.lines)),
-    }
+    let head = read_head(s).map_err(|wrong| wrong_line(wrong.lines))?;
+    read_behind(s, head, list)
 }
 
 /// Reads a sheet and puts its curves into the list.

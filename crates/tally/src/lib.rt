@@ -78,6 +78,7 @@ impl Tally {
         ensures { result ≡ grown kind self }
     {
         self.rays += 1;
+        // A match, since each kind has a counter of its own.
         match kind {
             Kind::Hit => self.hits += 1,
             Kind::Miss => self.misses += 1,

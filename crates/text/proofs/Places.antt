@@ -105,7 +105,7 @@ stands_not l at v r w k h s t e =
 
 -- ---- std's `starts_with`
 
-all_below-first : (n : ℕ) (P : ℕ → Bool) → all_below (suc n) P ≡ (P 0 && all_below n (λ k. P (suc k)))
+pub all_below-first : (n : ℕ) (P : ℕ → Bool) → all_below (suc n) P ≡ (P 0 && all_below n (λ k. P (suc k)))
 unfolding all_below
 all_below-first zero P = sym (and-true (P 0))
 all_below-first (suc n) P = ap (λ (b : Bool). b && P (suc n)) (all_below-first n P) ∙ and_assoc (P 0) (all_below n (λ k. P (suc k))) (P (suc n))

@@ -1,11 +1,11 @@
 // Text put into a buffer that is lent, as much as fits.
 ghost use Rattle.std.specs.Prelude.{◌≡◌, [], ◌∷◌, ◌-◌, ◌<◌, length};
-ghost use Rattle.text.specs.Digits.{digit_char, decimal_text, hex_text, float_text};
+ghost use Rattle.text.specs.Digits.{digit_char, decimal_text, float_text};
 ghost use Rattle.text.specs.Put.{Puts};
 
 /// A buffer that is lent, and the place behind what was put into it.
 // No writer of std's: what it answers at a full buffer would have to be told apart at each line, and here a text is cut.
-#[derive(Drop)]
+#[derive(Debug, Drop)]
 pub struct Buffer<'a> {
     pub bytes: &'a mut [u8],
     pub end: usize,
@@ -56,15 +56,18 @@ impl<'a> Buffer<'a> {
         }
     }
 
-    /// The bits of a float.
+    /// The bits of a float, in hexadecimal.
     pub fn put_float(&mut self, x: f32)
         ensures { Puts self.old self.new (float_text x) }
     {
-        self.put_word(&hex(float::to_bits(x)));
+        let bits = float::to_bits(x);
+        for i in (0u32..8).rev() {
+            self.put_digit((bits >> (4 * i)) % 16);
+        }
     }
 }
 
-// The character of a digit, decimal or hexadecimal.
+// The character of a digit, decimal or hexadecimal, as a byte: `char::from_digit` gives a char in an Option.
 #[tactic(auto, unfolding(crate::specs::Digits::digit_char))]
 fn digit_char(d: u32) -> u8
     requires { d < 16 }
@@ -75,23 +78,4 @@ fn digit_char(d: u32) -> u8
     } else {
         b'a' - 10 + d as u8
     }
-}
-
-// The eight digits of a number.
-#[tactic(auto, unfolding(crate::specs::Digits::hex_text, crate::specs::Digits::four_text))]
-fn hex(w: u32) -> [u8; 8]
-    ensures { result ≡ hex_text w }
-{
-    let high = w / 65536;
-    let low = w % 65536;
-    [
-        digit_char(high / 4096 % 16),
-        digit_char(high / 256 % 16),
-        digit_char(high / 16 % 16),
-        digit_char(high % 16),
-        digit_char(low / 4096 % 16),
-        digit_char(low / 256 % 16),
-        digit_char(low / 16 % 16),
-        digit_char(low % 16),
-    ]
 }

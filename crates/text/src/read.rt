@@ -1,6 +1,7 @@
-// Reading by place: a place past the end has no byte, so that nothing is asked about it.
+// Reading by place in the whole text, as the definitions say it and as a wrong line is told. A place past the end has no byte, so that
+// nothing is asked about it; the rest of a slice from there, `s[at..]`, asks that the place is no further than the end.
 ghost use Rattle.std.specs.Prelude.{◌≡◌, ◌+◌, ◌<◌, ◌≤◌, max, length, IsTrue, IfSome};
-ghost use Rattle.text.specs.Bytes.{byte_is, stands_at, digit_of, digit_at, four_at, word_at};
+ghost use Rattle.text.specs.Bytes.{byte_is, stands_at, digit_of, digit_at, word_at};
 
 #[tactic(auto, unfolding(crate::specs::Bytes::byte_is))]
 pub fn is_byte(s: &[u8], i: usize, b: u8) -> bool
@@ -41,27 +42,14 @@ pub fn digit_at(s: &[u8], i: usize) -> Option<u32>
     digit(*s.get(i)?)
 }
 
-// The number that four digits are.
-#[tactic(auto, unfolding(crate::specs::Bytes::four_at))]
-fn four_at(s: &[u8], at: usize) -> Option<u32>
-    ensures value { result ≡ four_at s.now at }
-    ensures small { IfSome result (λ n. n < 65536) }
-    ensures within { IfSome result (λ _. at + 4 ≤ length s.now) }
-{
-    let a = digit_at(s, at)?;
-    let b = digit_at(s, at + 1)?;
-    let c = digit_at(s, at + 2)?;
-    let d = digit_at(s, at + 3)?;
-    Some(((a * 16 + b) * 16 + c) * 16 + d)
-}
-
 /// The number that eight digits at a place are.
-#[tactic(auto, unfolding(crate::specs::Bytes::word_at))]
 pub fn word_at(s: &[u8], at: usize) -> Option<u32>
     ensures value { result ≡ word_at s.now at }
     ensures within { IfSome result (λ _. at + 8 ≤ length s.now) }
 {
-    let high = four_at(s, at)?;
-    let low = four_at(s, at + 4)?;
-    Some(high * 65536 + low)
+    let mut word = 0;
+    for i in 0..8 {
+        word = word * 16 + digit_at(s, at + i)?;
+    }
+    Some(word)
 }

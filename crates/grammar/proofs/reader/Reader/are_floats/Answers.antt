@@ -1,28 +1,13 @@
--- Float i is told by the byte behind its place and by its digits.
-use Rattle.std.proofs.Common.{◌≡◌, sym, refl, ◌∙◌, ap, arith}
-use Rattle.limits.specs.Below.{all_below}
-use Rattle.limits.proofs.Below.{all_next, all_fails}
+-- Each float is told by its digits and by the byte behind them.
+use Rattle.std.proofs.Common.{◌∙◌, rules, tests, arith}
+use Rattle.std.proofs.lemmas.Iterator.{YieldsList-from_range}
+use Rattle.std.proofs.lemmas.Iterator.Search.{all_from_yields_List}
 use Rattle.grammar.specs.Grammar.{float_stands, is_floats}
-use Rattle.grammar.proofs.Floats.{float_told}
+use Rattle.grammar.proofs.Floats.{all_in_range}
 use Rattle.grammar.proofs.reader.Reader.are_floats.Goals as goal
 
-pub loop-i-init : goal.loop-i-init
-unfolding all_below
-loop-i-init c = record { place = omega arith; within = omega arith; floats = refl }
-
-pub returns-then-not-is_float-clause-value : goal.returns-then-not-is_float-clause-value
+pub returns : goal.returns
 unfolding is_floats
-returns-then-not-is_float-clause-value c =
-    let told = float_told _ _ _ _ _ _ _ c.loop-i.invariant.place c.separator.ensures c.is_float.ensures.value in
-    sym (all_fails _ _ _ c.loop-i-test.true (told ∙ c.if-not-is_float.true))
-
-pub loop-i-preserved : goal.loop-i-preserved
-loop-i-preserved c =
-    let told = float_told _ _ _ _ _ _ _ c.loop-i.invariant.place c.separator.ensures c.is_float.ensures.value in
-    record { place = omega arith; within = omega (arith, c.is_float.ensures.within c.if-not-is_float.false); floats = all_next _ _ c.loop-i.invariant.floats (told ∙ c.if-not-is_float.false) }
-
-pub returns-clause-value : goal.returns-clause-value
-unfolding is_floats
-returns-clause-value c =
-    let full : c.loop-i.i ≡ c.args.n = omega arith in
-    sym (ap (λ k. all_below k (float_stands c.args.self.src.now c.args.self.at c.args.n)) (sym full) ∙ c.loop-i.invariant.floats)
+returns c =
+    let test = float_stands c.args.self.src.now c.args.self.at c.args.n in
+    all_from_yields_List test _ _ c.all.result c.all.ensures.ran (YieldsList-from_range 0 c.args.n c.args.n (cc) (omega arith)) (λ x b q k. search (rules, tests)) ∙ all_in_range test c.args.n
