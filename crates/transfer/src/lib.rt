@@ -13,7 +13,7 @@ use std::io::{ErrorKind, Read, Write};
 
 mod failure;
 
-pub use failure::{fail, tell};
+pub use failure::{Text, fail, tell};
 
 // So many calls in a row that a signal interrupted are one failure.
 const MOST_INTERRUPTIONS: usize = 100;
