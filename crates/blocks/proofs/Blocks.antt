@@ -27,7 +27,8 @@ use Rattle.report.specs.Printed.{longest}
 use Rattle.blocks.specs.declared.Block.{Block}
 use Rattle.blocks.specs.declared.Rest.{Rest}
 use Rattle.blocks.specs.Report.{reply_text, report_in, report_of}
-use Rattle.blocks.specs.Blocks.{Small, line_count, line_text, lines_text, LinesPut, Sound, lines_left, rest_of, IsBlock}
+use Rattle.blocks.specs.Lines.{Small, line_count, line_text, lines_text, Sound}
+use Rattle.blocks.specs.Blocks.{LinesPut, lines_left, rest_of, IsBlock}
 use Rattle.blocks.proofs.Lines.{line_most, no_lines, lines_next, lines_append, all_lines}
 
 -- ---- a sheet that was read

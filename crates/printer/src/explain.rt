@@ -47,12 +47,16 @@ fn limit_of(refusal: Refusal) -> &'static str {
     }
 }
 
-pub fn explain<E: Write>(err: &mut E, refused: SheetRefusal, sheet: &[u8]) {
-    match refused.refusal {
-        Refusal::WrongLine => say_wrong_line(err, refused.line, sheet),
-        refusal => {
-            let _ = writeln!(Text(err), "{}", limit_of(refusal));
+// Says why a sheet is refused, if it is.
+pub fn explain<E: Write>(err: &mut E, refused: Option<SheetRefusal>, sheet: &[u8]) {
+    match refused {
+        Some(refused) if refused.refusal == Refusal::WrongLine => {
+            say_wrong_line(err, refused.line, sheet);
         }
+        Some(refused) => {
+            let _ = writeln!(Text(err), "{}", limit_of(refused.refusal));
+        }
+        None => {}
     }
 }
 
