@@ -81,7 +81,7 @@ impl Rest {
         }
     }
 
-    // A line, by its number.
+    // A line, by its number. That number and a refusal's fit in 32 bits, and no `From` of the library's narrows, so `as` does.
     fn put_line(&self, out: &mut Buffer<'_>, list: &[f32; ROOM], line: usize)
         requires { line < line_count self.now.sheet }
         ensures { Puts out.old out.new (line_text list.now self.now.sheet line) }
@@ -130,7 +130,7 @@ impl Rest {
     {
         let count = self.line_count();
         let mut next = self.next;
-        while (next < count) & (LONGEST <= buffer.room()) {
+        while next < count && LONGEST <= buffer.room() {
             self.put_line(buffer, list, next);
             next += 1;
         }

@@ -1,7 +1,8 @@
 -- Each turn puts a line behind those before it, and what is put in the end is a block.
-use Rattle.std.proofs.Common.{refl, ◌∙◌}
-use Rattle.blocks.proofs.Blocks.{no_block, longer, moved, tested, is_block, fewer_left}
+use Rattle.std.proofs.Common.{refl, ◌∙◌, arith}
+use Rattle.blocks.proofs.Blocks.{no_block, longer, moved, is_block, fewer_left}
 use Rattle.blocks.proofs.Rest.put_lines.Goals as goal
+use Rattle.blocks.proofs.Rest.put_lines.Goals.{then-loop-next-test+else-room-ge-LONGEST, else-loop-next-test}
 
 pub loop-next-init : goal.loop-next-init
 loop-next-init c = rw (← c.self.view_is) (record { count = rw (← c.self.view_is) at c.line_count-count.ensures.value; same_buffer = refl; put = no_block _ _ _ _ _ c.requires c.self.invariant.1 })
@@ -9,12 +10,11 @@ loop-next-init c = rw (← c.self.view_is) (record { count = rw (← c.self.view
 pub loop-next-preserved : goal.loop-next-preserved
 loop-next-preserved c =
     let i = rw (← c.self.view_is) at c.loop-next.invariant in
-    let test = tested _ _ _ _ i.count c.loop-next-test.true in
     let line = rw (← c.self.view_is) at c.put_line.ensures in
     rw (← c.self.view_is) (record {
       count = i.count;
       same_buffer = line.same_buffer ∙ i.same_buffer;
-      put = longer _ _ _ _ _ _ _ _ _ c.self.invariant.0 i.put test.0 (rw (← c.room.ensures) test.1) line.put;
+      put = longer _ _ _ _ _ _ _ _ _ c.self.invariant.0 i.put (rw (← i.count) c.loop-next-test.true) (rw (← c.room.ensures) c.if-room-ge-LONGEST.true) line.put;
     })
 
 pub invariant_of-result : goal.invariant_of-result
@@ -23,7 +23,10 @@ invariant_of-result c = let i = rw (← c.self.view_is) at c.loop-next.invariant
 pub returns : goal.returns
 returns c =
     let i = rw (← c.self.view_is) at c.loop-next.invariant in
-    let stopped = moved _ _ _ _ _ _ _ i.put (rw (← i.count, ← c.room.ensures) c.loop-next-test.false) in
+    let stopped = moved _ _ _ _ _ _ _ i.put (elim c.loop-next-test.branch [
+      | then-loop-next-test+else-room-ge-LONGEST w ↦ λ more room. omega (arith, room, w.room.ensures, w.if-room-ge-LONGEST.false)
+      | else-loop-next-test w ↦ λ more room. omega (arith, more, i.count, w.loop-next-test.false)
+    ]) in
     rw (← c.self.view_is) (record {
       same_buffer = i.same_buffer;
       block = is_block _ _ _ _ _ _ _ i.put c.self.invariant.0;
