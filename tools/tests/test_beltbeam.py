@@ -22,7 +22,8 @@ BEAM = STRAIGHT.splitlines(keepends=True)[-1]
 # 1,024 pieces and 64 beams: some 3 MB of report, of many blocks.
 LONG = STRAIGHT.replace(b"splitdepth=0", b"splitdepth=10") + BEAM * 63
 
-# A read and a write that a signal interrupts so often in a row before they move any byte, and then move at most so many.
+# A read and a write that a signal interrupts so often in a row before they move any byte, and then move at most so many: those
+# of standard input and output, or those of standard error.
 INTERRUPTING = r"""
 #define _GNU_SOURCE
 #include <dlfcn.h>
@@ -34,7 +35,7 @@ INTERRUPTING = r"""
 static ssize_t moved(const char *name, int fd, void *bytes, size_t n) {
     static size_t calls;
     ssize_t (*move)(int, void *, size_t) = (ssize_t (*)(int, void *, size_t))dlsym(RTLD_NEXT, name);
-    if (fd == 2 || !strstr(getenv("INTERRUPTED"), name)) return move(fd, bytes, n);
+    if (!strstr(getenv("INTERRUPTED"), fd == 2 ? "error" : name)) return move(fd, bytes, n);
     size_t often = strtoul(getenv("OFTEN"), 0, 10), most = strtoul(getenv("MOST"), 0, 10);
     if (calls++ % (often + 1) < often) {
         errno = EINTR;
@@ -260,7 +261,7 @@ class Interrupted(Beltbeam):
         subprocess.run(["cc", "-shared", "-fPIC", "-o", source.with_suffix(".so"), source, "-ldl"], check=True)
 
     def interrupted(self, name: str, often: int, most: int, sheet: bytes) -> subprocess.CompletedProcess:
-        """A run whose calls of that name are interrupted so often in a row, and then move at most so many bytes."""
+        """A run whose calls of that name, or those for standard error, are interrupted so often in a row, and then move at most so many bytes."""
         library = str(Path(self.folder.name) / "interrupting.so")
         values = {"LD_PRELOAD": library, "INTERRUPTED": name, "OFTEN": str(often), "MOST": str(most)}
         return beltbeam(sheet, env={**os.environ, **values})
@@ -277,6 +278,13 @@ class Interrupted(Beltbeam):
         done = self.interrupted("write", 100, 7, STRAIGHT)
         self.assertEqual(done.stdout, b"")
         self.check_cut_short(done, b"", "100 writes in a row were interrupted")
+
+    def test_standard_error(self) -> None:
+        """A sentence is given up, too."""
+        sheet = STRAIGHT.replace(b"degree=3", b"degree=4")
+        for often, said in ((99, b"the degree is not 2 or 3\n"), (100, b"")):
+            done = self.interrupted("error", often, 7, sheet)
+            self.assertEqual((done.stdout, done.stderr), (b"refused=1 line=0\n", said))
 
 
 if __name__ == "__main__":

@@ -1,13 +1,10 @@
 -- The blocks of a sheet's report, one behind the other, are the report. Assumes nothing.
-use mathlib.Core.Bool.{true, false, ◌&&◌, and-eq-true_iff, true≢false}
 use mathlib.Core.List.{List, [], ◌++◌}
 use mathlib.Core.Logic.{inl, inr}
 use mathlib.Core.Path.{◌≡◌, refl, sym, ap, ap₂, ◌∙◌}
 use Prim.Native.Nat.{ℕ, ◌+◌, ◌-◌, ◌*◌, ◌≤◌, ◌<◌}
 use native.Mathlib.Nat.{zero-add, eq-or-lt_of_le}
 use native.Mathlib.Omega.{arith}
-use borrow.Author.Tests.{ltb-true, leb-true, lt-ltb, le-leb}
-use lib.Dec.{ltb, leb}
 use lib.Ieee.{Float}
 use lib.ListN.{length, take, drop, replicate, length-append}
 use lib.Seq.{take_at, drop_at, take_all}
@@ -27,7 +24,8 @@ use Rattle.report.specs.Printed.{longest}
 use Rattle.blocks.specs.declared.Block.{Block}
 use Rattle.blocks.specs.declared.Rest.{Rest}
 use Rattle.blocks.specs.Report.{reply_text, report_in, report_of}
-use Rattle.blocks.specs.Blocks.{Small, line_count, line_text, lines_text, LinesPut, Sound, lines_left, rest_of, IsBlock}
+use Rattle.blocks.specs.Lines.{Small, line_count, line_text, lines_text, Sound}
+use Rattle.blocks.specs.Blocks.{LinesPut, lines_left, rest_of, IsBlock}
 use Rattle.blocks.proofs.Lines.{line_most, no_lines, lines_next, lines_append, all_lines}
 
 -- ---- a sheet that was read
@@ -117,20 +115,14 @@ module _ (list : List Float) (sheet : Result Sheet SheetRefusal) (from : ℕ) (d
       }
 
   -- where nothing was put there was no line or no room
-  pub moved : (x : List ℕ) (next end : ℕ) → LinesPut list sheet from d x next end → (ltb next (line_count sheet) && leb longest (length x - end)) ≡ false
+  pub moved : (x : List ℕ) (next end : ℕ) → LinesPut list sheet from d x next end → (next < line_count sheet → longest ≤ length x - end → ⊥)
       → from < line_count sheet → longest ≤ length d → from < next
-  moved x next end held test more room = let same = long x next end held in elim (eq-or-lt_of_le held.not_back) [
+  moved x next end held stopped more room = let same = long x next end held in elim (eq-or-lt_of_le held.not_back) [
     | inl e ↦
         let start : end ≡ 0 = held.end_behind ∙ ap (λ (k : ℕ). length (lines_text list sheet from k)) (sym e) ∙ ap length (no_lines list sheet from) in
-        absurd (true≢false (sym (ap₂ ◌&&◌ (lt-ltb next (line_count sheet) (omega arith)) (le-leb longest (length x - end) (omega arith))) ∙ test))
+        absurd (stopped (omega arith) (omega arith))
     | inr l ↦ l
   ]
-
--- what the loop's test says
-pub tested : (next count n k : ℕ) → count ≡ n → (ltb next count && leb longest k) ≡ true → (next < n) × (longest ≤ k)
-tested next count n k e h =
-    let both = (and-eq-true_iff (ltb next count) (leb longest k)).0 h in
-    (omega (arith, ltb-true next count both.0), leb-true longest k both.1)
 
 -- ---- all blocks
 

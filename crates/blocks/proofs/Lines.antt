@@ -16,7 +16,7 @@ use Rattle.sheet.specs.declared.Sheet.{Sheet}
 use Rattle.sheet.specs.declared.SheetRefusal.{SheetRefusal}
 use Rattle.report.specs.Printed.{pieces_text, longest}
 use Rattle.blocks.specs.Report.{met_at, met_text, reply_text}
-use Rattle.blocks.specs.Blocks.{Small, line_count, line_text, lines_text}
+use Rattle.blocks.specs.Lines.{Small, line_count, line_text, lines_text}
 use Rattle.blocks.proofs.Narrow.{narrow}
 use Rattle.report.proofs.Longest.{pieces_most, refused_sheet_most, answer-most}
 

@@ -1,2 +1,3 @@
 pub mod Blocks
+pub mod Lines
 pub mod Report

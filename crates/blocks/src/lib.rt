@@ -3,12 +3,14 @@
 #![tactic(auto)]
 
 ghost use Rattle.std.specs.Prelude.{◌≡◌, ◌≤◌, ◌<◌, eqb, length};
+ghost use Rattle.std.specs.Result.{result_err};
 ghost use Rattle.text.specs.Put.{Puts};
 ghost use Rattle.create.specs.Create.{most_curves};
 ghost use Rattle.sheet.specs.Sheet.{most_rays};
 ghost use Rattle.report.specs.Printed.{longest};
 ghost use Rattle.blocks.specs.Report.{met_text, report_in};
-ghost use Rattle.blocks.specs.Blocks.{Small, line_count, line_text, Sound, lines_left, rest_of, IsBlock};
+ghost use Rattle.blocks.specs.Lines.{line_count, line_text, Sound};
+ghost use Rattle.blocks.specs.Blocks.{lines_left, rest_of, IsBlock};
 
 use create::MOST_CURVES;
 use curve::FLOATS;
@@ -16,17 +18,30 @@ use geometry::{RAY_FLOATS, ray_from};
 use matrix::Matrix4x4;
 use report::{LONGEST, Place, put_answer, put_pieces, put_refused_sheet};
 use sheet::{Sheet, SheetRefusal};
+use std::marker::Model;
 use text::Buffer;
 
 /// The floats of the most curves.
 pub const ROOM: usize = MOST_CURVES * FLOATS;
 
-/// What is left of a sheet's report: what was read of the sheet, but for its curves, and the line that is next.
-// `Sound` is no ghost field: the laws of blocks write a rest as a record with another line, and each would carry the proof.
+/// What is left of a sheet's report: what was read of the sheet, but for its curves, and the line that is next. The sheet's
+/// numbers are small, and of a report that is printed whole the line behind the last is next (`Sound`).
 #[derive(Clone, Copy)]
 pub struct Rest {
-    pub sheet: Result<Sheet, SheetRefusal>,
-    pub next: usize,
+    sheet: Result<Sheet, SheetRefusal>,
+    next: usize,
+}
+
+impl Model for Rest {
+    ghost use Rattle.blocks.specs.Lines.{Left, Sound};
+
+    ghost Value = { Left };
+
+    ghost view = { λ r. record { sheet = r.sheet; next = r.next } };
+
+    ghost invariant = { λ r. Sound (record { sheet = r.sheet; next = r.next }) };
+
+    ghost inverse = { λ left. record { sheet = left.sheet; next = left.next } };
 }
 
 /// The place behind a block's bytes, and what is left behind it.
@@ -37,31 +52,26 @@ pub struct Block {
 }
 
 // A ray of the sheet against a curve of the list.
-fn put_met(out: &mut Buffer<'_>, list: &[f32; ROOM], sheet: &Sheet, ray: usize, piece: usize)
-    requires { (ray < most_rays) × (piece < most_curves) }
-    ensures { Puts out.old out.new (met_text sheet.now.rays list.now sheet.now.reverse ray piece) }
+fn put_met(out: &mut Buffer<'_>, list: &[f32; ROOM], sheet: &Sheet, place: Place)
+    requires { (place.ray < most_rays) × (place.piece < most_curves) }
+    ensures { Puts out.old out.new (met_text sheet.now.rays list.now sheet.now.reverse place.ray place.piece) }
 {
     let identity = Matrix4x4::default();
     let curves = &list[..];
-    let from = piece * FLOATS;
+    let from = place.piece as usize * FLOATS;
     let met = intersect::intersect(
         &curves[from..from + FLOATS],
         identity,
         identity,
         sheet.reverse,
-        ray_from(&sheet.rays, ray * RAY_FLOATS),
+        ray_from(&sheet.rays, place.ray as usize * RAY_FLOATS),
     );
-    let place = Place {
-        ray: ray as u32,
-        piece: piece as u32,
-    };
     put_answer(out, place, met);
 }
 
 impl Rest {
     // How many lines the report has.
     fn line_count(&self) -> usize
-        requires { Small self.now.sheet }
         ensures value { result ≡ line_count self.now.sheet }
         ensures few { result ≤ 65537 }
     {
@@ -71,38 +81,47 @@ impl Rest {
         }
     }
 
-    // The line that is next.
-    fn put_line(&self, out: &mut Buffer<'_>, list: &[f32; ROOM])
-        requires { Small self.now.sheet × (self.now.next < line_count self.now.sheet) }
-        ensures { Puts out.old out.new
-            (line_text list.now self.now.sheet self.now.next) }
+    // A line, by its number. That number and a refusal's fit in 32 bits, and no `From` of the library's narrows, so `as` does.
+    fn put_line(&self, out: &mut Buffer<'_>, list: &[f32; ROOM], line: usize)
+        requires { line < line_count self.now.sheet }
+        ensures { Puts out.old out.new (line_text list.now self.now.sheet line) }
     {
         match &self.sheet {
             Ok(sheet) => {
-                if self.next == 0 {
+                if line == 0 {
                     put_pieces(out, sheet.pieces);
                 } else {
-                    let per = sheet.pieces as usize;
-                    let k = self.next - 1;
-                    put_met(out, list, sheet, k / per, k % per);
+                    let k = (line - 1) as u32;
+                    let place = Place {
+                        ray: k / sheet.pieces,
+                        piece: k % sheet.pieces,
+                    };
+                    put_met(out, list, sheet, place);
                 }
             }
             Err(refused) => put_refused_sheet(out, refused.refusal, refused.line as u32),
         }
     }
 
+    /// Why the sheet is refused, if it is.
+    pub fn refusal(&self) -> Option<SheetRefusal>
+        ensures { result ≡ result_err self.now.sheet }
+    {
+        self.sheet.err()
+    }
+
     /// Whether nothing is left.
     #[tactic(auto, unfolding(crate::specs::Blocks::lines_left))]
     pub fn is_done(&self) -> bool
-        requires { Sound self.now }
         ensures { result ≡ eqb (lines_left self.now) 0 }
     {
         self.line_count() - self.next == 0
     }
 
-    // The next lines, as long as there is room for the longest, and what is left behind them. No count ends it.
+    // The next lines, as long as there is room for the longest, and what is left behind them. No count ends the loop: lines
+    // differ in their length.
     fn put_lines(&self, buffer: &mut Buffer<'_>, list: &[f32; ROOM]) -> Rest
-        requires { Sound self.now × (buffer.old.end ≡ 0) }
+        requires { buffer.old.end ≡ 0 }
         ensures same_buffer { buffer.new.bytes.ghost_name ≡ buffer.old.bytes.ghost_name }
         ensures block { IsBlock list.now self.now buffer.old.bytes.now buffer.new.bytes.now
             (record { end = buffer.new.end; rest = result }) }
@@ -110,17 +129,19 @@ impl Rest {
             → lines_left result < lines_left self.now }
     {
         let count = self.line_count();
-        let mut rest = *self;
-        while (rest.next < count) & (LONGEST <= buffer.room()) {
-            rest.put_line(buffer, list);
-            rest.next += 1;
+        let mut next = self.next;
+        while next < count && LONGEST <= buffer.room() {
+            self.put_line(buffer, list, next);
+            next += 1;
         }
-        rest
+        Rest {
+            sheet: self.sheet,
+            next,
+        }
     }
 
     /// Puts the next lines into the buffer: one at least, where there is room for the longest.
     pub fn put_block(&self, out: &mut [u8], list: &[f32; ROOM]) -> Block
-        requires { Sound self.now }
         ensures block { IsBlock list.now self.now out.old out.new result }
         ensures rest_bound { 0 < lines_left self.now → longest ≤ length out.old
             → lines_left result.rest < lines_left self.now }

@@ -7,7 +7,8 @@ use Rattle.std.proofs.lemmas.List.{take-append-le}
 use mathlib.Core.Bool.{and-eq-true_iff}
 use borrow.Author.Tests.{not-true, not-false, eqb-true, eqb-false}
 use Rattle.std.proofs.KnownBytes.{Appends-trans}
-use Rattle.blocks.specs.Blocks.{line_count, lines_text, Sound, lines_left, rest_of, IsBlock}
+use Rattle.blocks.specs.Lines.{line_count, lines_text, Sound}
+use Rattle.blocks.specs.Blocks.{lines_left, rest_of, IsBlock}
 use Rattle.blocks.specs.declared.Block.{Block}
 use Rattle.blocks.specs.declared.Rest.{Rest}
 use Rattle.blocks.proofs.Lines.{lines_few, no_lines}

@@ -1,12 +1,15 @@
-// Plain sentences on standard error: why a sheet is refused, and that a report is not whole.
+// Plain sentences on standard error: why a sheet is refused, and that a report is not whole. What follows a write that
+// failed is written all the same. The two texts with a number in them go by std's rule, which tries an interrupted write
+// again for ever, and the others by `Text`'s.
 use crate::ending::wrong_ending_of;
 use crate::print::Printed;
 use limits::Refusal;
 use sheet::SheetRefusal;
+use std::fmt::Write as _;
 use std::io::Write;
-use transfer::tell;
+use transfer::{Text, tell};
 
-// What stands on a line of a sheet, by its number.
+// What stands on a line of a sheet, by its number: a refusal tells no more of a line.
 fn expected_on(line: usize) -> &'static str {
     match line {
         1 => "degree= and one or two decimal digits",
@@ -21,16 +24,15 @@ fn expected_on(line: usize) -> &'static str {
     }
 }
 
-// What follows a write that failed is written all the same.
 fn say_wrong_line<E: Write>(err: &mut E, line: usize, sheet: &[u8]) {
     let _ = write!(err, "line {line}: ");
     if let Some(ending) = wrong_ending_of(sheet, line) {
-        let _ = write!(err, "{ending}; ");
+        let _ = write!(Text(err), "{ending}; ");
     }
-    let _ = writeln!(err, "expected {}", expected_on(line));
+    let _ = writeln!(Text(err), "expected {}", expected_on(line));
 }
 
-// Which limit a refused sheet breaks. These are the words that the program prints; those of `Refusal` are others.
+// Which limit a refused sheet breaks, in the program's words. They stay, and those that `Refusal` displays are others.
 fn limit_of(refusal: Refusal) -> &'static str {
     match refusal {
         Refusal::Degree => "the degree is not 2 or 3",
@@ -45,12 +47,16 @@ fn limit_of(refusal: Refusal) -> &'static str {
     }
 }
 
-pub fn explain<E: Write>(err: &mut E, refused: SheetRefusal, sheet: &[u8]) {
-    match refused.refusal {
-        Refusal::WrongLine => say_wrong_line(err, refused.line, sheet),
-        refusal => {
-            let _ = writeln!(err, "{}", limit_of(refusal));
+// Says why a sheet is refused, if it is.
+pub fn explain<E: Write>(err: &mut E, refused: Option<SheetRefusal>, sheet: &[u8]) {
+    match refused {
+        Some(refused) if refused.refusal == Refusal::WrongLine => {
+            say_wrong_line(err, refused.line, sheet);
         }
+        Some(refused) => {
+            let _ = writeln!(Text(err), "{}", limit_of(refused.refusal));
+        }
+        None => {}
     }
 }
 

@@ -1,13 +1,13 @@
 // The report of a sheet, written block by block. The first write that fails is the last.
 ghost use Rattle.std.specs.Prelude.{◌≡◌, ◌+◌, ◌-◌, ◌<◌, ◌≤◌, ◌^◌, length, take};
 ghost use Rattle.std.specs.Io.KnownBytes.{Appends};
-ghost use Rattle.blocks.specs.Blocks.{Sound, rest_of};
+ghost use Rattle.blocks.specs.Lines.{Sound};
+ghost use Rattle.blocks.specs.Blocks.{rest_of};
 ghost use Rattle.blocks.specs.Report.{report_of};
 ghost use Rattle.printer.specs.Printed.{goes_on, Follows, Writes};
 
 use crate::explain::{explain, tell_cut};
 use blocks::{ROOM, Rest};
-use sheet::{Sheet, SheetRefusal};
 use std::io::Write;
 use transfer::Stop;
 
@@ -20,7 +20,6 @@ pub struct Printed {
 
 // Whether there is more to write, and no write failed.
 fn goes_on(printed: Printed, left: Rest) -> bool
-    requires { Sound left }
     ensures { result ≡ goes_on printed left }
 {
     printed.outcome.is_ok() && !left.is_done()
@@ -40,7 +39,7 @@ fn write_block<W: Write>(out: &mut W, printed: Printed, block: &[u8]) -> Printed
     }
 }
 
-// What is left of a report, by way of a buffer that is lent.
+// What is left of a report, by way of a buffer that is lent. No count ends the loop: a block has as many lines as fit.
 fn write_report<W: Write>(out: &mut W, buf: &mut [u8], list: &[f32; ROOM], rest: Rest) -> Printed
     requires { Sound rest × (length buf.old ≡ 65536) }
     ensures writes { Writes (rest_of list.now rest) result }
@@ -60,13 +59,6 @@ fn write_report<W: Write>(out: &mut W, buf: &mut [u8], list: &[f32; ROOM], rest:
     printed
 }
 
-// A refused sheet has a sentence besides.
-fn explain_refusal<E: Write>(err: &mut E, sheet: Result<Sheet, SheetRefusal>, bytes: &[u8]) {
-    if let Err(refused) = sheet {
-        explain(err, refused, bytes);
-    }
-}
-
 // Prints the report of a sheet's bytes, and says on the other writer what is amiss.
 pub fn print_sheet<W: Write, E: Write>(out: &mut W, err: &mut E, bytes: &[u8]) -> Printed
     ensures writes { Writes (report_of bytes.now) result }
@@ -75,9 +67,8 @@ pub fn print_sheet<W: Write, E: Write>(out: &mut W, err: &mut E, bytes: &[u8]) -
     let mut list = [0.0f32; ROOM];
     let mut buf = [0u8; 65536];
     let rest = blocks::open(bytes, &mut list);
-    let sheet = rest.sheet;
     let printed = write_report(out, &mut buf, &list, rest);
     tell_cut(err, printed);
-    explain_refusal(err, sheet, bytes);
+    explain(err, rest.refusal(), bytes);
     printed
 }

@@ -13,7 +13,7 @@ use std::io::{ErrorKind, Read, Write};
 
 mod failure;
 
-pub use failure::{fail, tell};
+pub use failure::{Text, fail, tell};
 
 // So many calls in a row that a signal interrupted are one failure.
 const MOST_INTERRUPTIONS: usize = 100;
@@ -103,8 +103,9 @@ impl Transfer {
     }
 }
 
-// The three loops below differ in their call. As a closure that is passed to one loop it was tried: then nothing says
-// what became of the writer or the reader that it borrows, and its bound holds of its own slice alone.
+// No count ends the three loops below: a call moves as much as it likes. They differ in their call. As a closure that is
+// passed to one loop it was tried: then nothing says what became of the writer or the reader that it borrows, and its
+// bound holds of its own slice alone.
 
 // Writes all bytes of a slice, or those before a call that failed.
 pub fn write<W: Write>(out: &mut W, buf: &[u8]) -> Transfer

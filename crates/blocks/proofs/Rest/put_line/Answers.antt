@@ -8,8 +8,8 @@ use Rattle.sheet.specs.declared.SheetRefusal.{SheetRefusal}
 use Rattle.text.proofs.Puts.{puts_renamed}
 use Rattle.report.specs.Printed.{pieces_text, refused_sheet_text}
 use Rattle.blocks.specs.Report.{met_text}
-use Rattle.blocks.specs.Blocks.{Small, line_count, line_text}
-use Rattle.blocks.proofs.Lines.{placed}
+use Rattle.blocks.specs.Lines.{Small, line_count, line_text}
+use Rattle.blocks.proofs.Lines.{placed, lines_few}
 use Rattle.blocks.proofs.Rest.put_line.Goals as goal
 
 module _ (list : List Float) {read : Result Sheet SheetRefusal} where
@@ -26,26 +26,29 @@ module _ (list : List Float) {read : Result Sheet SheetRefusal} where
 at : {read : Result Sheet SheetRefusal} {next : ℕ} {sheet : Sheet} → read ≡ Ok sheet → (next ≡ 0 → ⊥) → next < line_count read → (0 < sheet.pieces) × ((next - 1) / sheet.pieces < sheet.ray_count) × ((next - 1) % sheet.pieces < sheet.pieces)
 at {read} {next} {sheet} e z h = placed next sheet.ray_count sheet.pieces z (subst (λ (r : Result Sheet SheetRefusal). next < line_count r) e h)
 
-pub nonzero_div-k : goal.nonzero_div-k
-nonzero_div-k c = (at c.in-Ok.is c.if-self-eq0.false c.requires.1).0
+pub nonzero_div-place : goal.nonzero_div-place
+nonzero_div-place c = (at c.in-Ok.is c.if-line-eq0.false (rw (← c.self.view_is) at c.requires)).0
 
-pub nonzero_rem-k : goal.nonzero_rem-k
-nonzero_rem-k c = (at c.in-Ok.is c.if-self-eq0.false c.requires.1).0
+pub nonzero_rem-place : goal.nonzero_rem-place
+nonzero_rem-place c = (at c.in-Ok.is c.if-line-eq0.false (rw (← c.self.view_is) at c.requires)).0
+
+pub overflow_cast-k : goal.overflow_cast-k
+overflow_cast-k c = omega (arith, lines_few _ c.self.invariant.0, rw (← c.self.view_is) at c.requires)
 
 pub put_met-requires : goal.put_met-requires
 put_met-requires c =
-    let few = subst Small c.in-Ok.is c.requires.0 in
-    let here = at c.in-Ok.is c.if-self-eq0.false c.requires.1 in
+    let few = subst Small c.in-Ok.is c.self.invariant.0 in
+    let here = at c.in-Ok.is c.if-line-eq0.false (rw (← c.self.view_is) at c.requires) in
     (omega (arith, here.1, few.1), omega (arith, here.2, few.0))
 
 pub overflow_cast-refused : goal.overflow_cast-refused
-overflow_cast-refused c = let few = subst Small c.in-Err.is c.requires.0 in omega (arith, few.1)
+overflow_cast-refused c = let few = subst Small c.in-Err.is c.self.invariant.0 in omega (arith, few.1)
 
-pub returns-then-self-eq0 : goal.returns-then-self-eq0
-returns-then-self-eq0 c = puts_renamed (first _ c.in-Ok.is c.if-self-eq0.true) c.put_pieces.ensures
+pub returns-then-line-eq0 : goal.returns-then-line-eq0
+returns-then-line-eq0 c = rw (← c.self.view_is) (puts_renamed (first _ c.in-Ok.is c.if-line-eq0.true) c.put_pieces.ensures)
 
-pub returns-else-self-eq0 : goal.returns-else-self-eq0
-returns-else-self-eq0 c = puts_renamed (later _ c.in-Ok.is c.if-self-eq0.false) c.put_met.ensures
+pub returns-else-line-eq0 : goal.returns-else-line-eq0
+returns-else-line-eq0 c = rw (← c.self.view_is) (puts_renamed (later _ c.in-Ok.is c.if-line-eq0.false) c.put_met.ensures)
 
 pub returns-in-Err : goal.returns-in-Err
-returns-in-Err c = puts_renamed (only _ _ c.in-Err.is) c.put_refused_sheet.ensures
+returns-in-Err c = rw (← c.self.view_is) (puts_renamed (only _ _ c.in-Err.is) c.put_refused_sheet.ensures)
