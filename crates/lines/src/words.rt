@@ -31,7 +31,8 @@ impl<const N: usize> Words<N> {
         }
     }
 
-    // Adds a word behind the others, where there is room.
+    // Adds a word behind the others. Where there is no room it answers None, as where a line has no further input: what answers
+    // a line does both, and ends either way by one `?`.
     pub fn push(&mut self, word: u32) -> Option<()>
         ensures room { IsSome result ↔ (length self.old < N) }
         ensures pushed { OnSome result (self.new ≡ self.old ++ word ∷ []) }
