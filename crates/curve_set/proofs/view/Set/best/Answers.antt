@@ -1,4 +1,4 @@
-use Rattle.std.proofs.Common.{◌≡◌, ◌<◌, ◌≤◌, ◌∙◌, sym, None, filter, option_map, length, arith, rules}
+use Rattle.std.proofs.Common.{◌≡◌, ◌≤◌, ◌∙◌, sym, None, filter, option_map, arith, rules}
 use Rattle.std.specs.List.{fold, range_with_len}
 use Rattle.std.proofs.lemmas.Iterator.{YieldsList-from_range}
 use Rattle.std.proofs.lemmas.Iterator.Consumers.{YieldsList-from_filter, fold_from_yields_List}
@@ -16,9 +16,9 @@ returns c =
     let s = set_of f w in
     let n = count_of w in
     let chain : c.fold.result ≡ fold (nearer_at f w) None (filter (is_hit_at w) (range_with_len 0 n)) =
-        fold_from_yields_List _ (nearer_at f w) None c.fold.result c.fold.ensures.ran
-          (YieldsList-from_filter _ (is_hit_at w) (YieldsList-from_range 0 n n (cc) (omega arith)) c.filter.ensures.closure (λ x b q k. search (rules, tests)))
-          (λ a x b q k. search (rules, tests))
+    fold_from_yields_List _ (nearer_at f w) None c.fold.result c.fold.ensures.ran
+    (YieldsList-from_filter _ (is_hit_at w) (YieldsList-from_range 0 n n (cc) (omega arith)) c.filter.ensures.closure (λ x b q k. search (rules, tests)))
+    (λ a x b q k. search (rules, tests))
     in
     let best : c.fold.result ≡ best_so_far s n = chain ∙ best_chained f w n (omega arith) in
     let place : c.map.result ≡ option_map (λ x. x.0) c.fold.result = search rules in
