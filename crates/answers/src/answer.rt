@@ -1,4 +1,4 @@
-// The words of an answer. What has no room is None, as `Words::push` has it.
+// The words of an answer. What has no room is None (`Words::push`).
 use geometry::{Bounds3f, Point3f, RAY_FLOATS, Ray, Vector3f};
 use limits::Refusal;
 use lines::Words;
