@@ -1,4 +1,4 @@
-// The words of an answer. What has no room is None.
+// The words of an answer. What has no room is None (`Words::push`).
 use geometry::{Bounds3f, Point3f, RAY_FLOATS, Ray, Vector3f};
 use limits::Refusal;
 use lines::Words;
@@ -16,6 +16,20 @@ pub struct Answer {
 }
 
 impl Answer {
+    // An answer that has no words where the Rust panics.
+    pub(crate) fn option<T: Drop, F: FnOnce(&mut Answer, T) -> Option<()>>(
+        &mut self,
+        answer: Option<T>,
+        put: F,
+    ) -> Option<()>
+        requires { F.IsAlwaysCallable put }
+    {
+        match answer {
+            Some(value) => put(self, value),
+            None => Some(()),
+        }
+    }
+
     // An answer that may be refused: the status, and behind it what there is where it is done.
     pub(crate) fn outcome<T: Drop, F: FnOnce(&mut Answer, T) -> Option<()>>(
         &mut self,

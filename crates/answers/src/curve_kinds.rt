@@ -30,7 +30,7 @@ impl Operation for Area {
 
     fn answer(inputs: &mut Inputs<'_>, out: &mut Answer) -> Option<()> {
         let curve = inputs.curve()?;
-        out.outcome(measure::area(&curve), |out, area| out.float(area))
+        out.outcome(measure::area(&curve), Answer::float)
     }
 }
 
@@ -42,7 +42,7 @@ impl Operation for Price {
     fn answer(inputs: &mut Inputs<'_>, out: &mut Answer) -> Option<()> {
         let curve = inputs.curve()?;
         let cents = measure::price(&curve, inputs.word()?);
-        out.outcome(cents, |out, cents| out.word(cents))
+        out.outcome(cents, Answer::word)
     }
 }
 
@@ -55,7 +55,7 @@ impl Operation for ObjectBound {
 
     fn answer(inputs: &mut Inputs<'_>, out: &mut Answer) -> Option<()> {
         let curve = inputs.curve()?;
-        out.outcome(measure::object_bound(&curve), |out, b| out.bounds(b))
+        out.outcome(measure::object_bound(&curve), Answer::bounds)
     }
 }
 
@@ -69,6 +69,6 @@ impl Operation for WorldBound {
     fn answer(inputs: &mut Inputs<'_>, out: &mut Answer) -> Option<()> {
         let curve = inputs.curve()?;
         let bounds = measure::world_bound(&curve, inputs.matrix()?);
-        out.outcome(bounds, |out, b| out.bounds(b))
+        out.outcome(bounds, Answer::bounds)
     }
 }

@@ -14,24 +14,15 @@ impl Operation for Sqrt {
     }
 }
 
-fn f64_of(high: u32, low: u32) -> f64 {
-    let bits = high as u64 * 0x1_0000_0000 + low as u64;
-    if bits % 0x8000_0000_0000_0000 > 0x7ff0_0000_0000_0000 {
-        0.0 / 0.0
-    } else {
-        f64::from_bits(bits)
-    }
-}
-
 pub struct Narrow;
 
 impl Operation for Narrow {
     const FILE: &'static str = "narrow.txt";
 
     fn answer(inputs: &mut Inputs<'_>, out: &mut Answer) -> Option<()> {
-        let high = inputs.word()?;
-        let low = inputs.word()?;
-        out.float(float::narrow(f64_of(high, low)))
+        let high = u64::from(inputs.word()?);
+        let bits = high << 32 | u64::from(inputs.word()?);
+        out.float(float::narrow(std::num::f64_from_bits_with_nan(bits)))
     }
 }
 
@@ -78,10 +69,7 @@ impl Operation for Normalize {
     const FILE: &'static str = "normalize.txt";
 
     fn answer(inputs: &mut Inputs<'_>, out: &mut Answer) -> Option<()> {
-        match inputs.vector()?.normalize() {
-            Some(v) => out.vector(v),
-            None => Some(()),
-        }
+        out.option(inputs.vector()?.normalize(), Answer::vector)
     }
 }
 
@@ -91,10 +79,10 @@ impl Operation for CoordinateSystem {
     const FILE: &'static str = "coordinate_system.txt";
 
     fn answer(inputs: &mut Inputs<'_>, out: &mut Answer) -> Option<()> {
-        if let Some((v2, v3)) = geometry::vec3_coordinate_system(inputs.vector()?) {
+        let axes = geometry::vec3_coordinate_system(inputs.vector()?);
+        out.option(axes, |out, (v2, v3)| {
             out.vector(v2)?;
-            out.vector(v3)?;
-        }
-        Some(())
+            out.vector(v3)
+        })
     }
 }

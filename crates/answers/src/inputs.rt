@@ -4,7 +4,7 @@ use geometry::{Bounds3f, Point3f, RAY_FLOATS, Ray, Vector3f, ray_from};
 use matrix::{MATRIX_FLOATS, Matrix4x4};
 
 // The words of a line that are not read yet.
-#[derive(Clone, Copy, Debug)]
+#[derive(Clone, Copy, Debug, PartialEq, Eq)]
 pub struct Inputs<'a> {
     pub rest: &'a [u32],
 }

@@ -10,6 +10,6 @@ pub trait Operation {
     const IS_BOX: bool = false;
 
     // Reads the inputs that a line starts with, and puts the library's answer to them, which has no words where the Rust
-    // panics. None where the line is too short for its inputs.
+    // panics. None where the line is too short for its inputs, or the answer too long for its room.
     fn answer(inputs: &mut Inputs<'_>, out: &mut Answer) -> Option<()>;
 }

@@ -2,26 +2,17 @@
 use crate::answer::{Answer, DONE};
 use crate::inputs::Inputs;
 use crate::operation::Operation;
-use geometry::Ray;
+use curve_set::Head;
 use interaction::{RECORD_FLOATS, SurfaceInteraction};
 use intersect::Intersection;
 use lines::LINE_WORDS;
-use matrix::Matrix4x4;
 
 // The status of a miss, as the oracle's lines have it.
 const MISSED: u32 = 1;
 
-// What a line has behind its curves, by the oracle's name.
-#[derive(Clone, Copy)]
-struct Cast {
-    object_to_world: Matrix4x4,
-    world_to_object: Matrix4x4,
-    reverse: bool,
-    ray: Ray,
-}
-
-fn read_cast(inputs: &mut Inputs<'_>) -> Option<Cast> {
-    Some(Cast {
+// What a line has behind its curves, the oracle's cast: under what they are met, as it is of a set of them.
+fn read_cast(inputs: &mut Inputs<'_>) -> Option<Head> {
+    Some(Head {
         object_to_world: inputs.matrix()?,
         world_to_object: inputs.matrix()?,
         reverse: inputs.word()? != 0,

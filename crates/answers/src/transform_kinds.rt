@@ -20,10 +20,8 @@ impl Operation for TransformPoint {
 
     fn answer(inputs: &mut Inputs<'_>, out: &mut Answer) -> Option<()> {
         let m = inputs.matrix()?;
-        match transform::transform_point(m, inputs.point()?) {
-            Some(p) => out.point(p),
-            None => Some(()),
-        }
+        let moved = transform::transform_point(m, inputs.point()?);
+        out.option(moved, Answer::point)
     }
 }
 
@@ -34,12 +32,12 @@ impl Operation for TransformRayError {
 
     fn answer(inputs: &mut Inputs<'_>, out: &mut Answer) -> Option<()> {
         let m = inputs.matrix()?;
-        if let Some(r) = transform::transform_ray_error(m, inputs.ray()?) {
+        let moved = transform::transform_ray_error(m, inputs.ray()?);
+        out.option(moved, |out, r| {
             out.ray(r.ray)?;
             out.vector(r.o_error)?;
-            out.vector(r.d_error)?;
-        }
-        Some(())
+            out.vector(r.d_error)
+        })
     }
 }
 
@@ -52,10 +50,8 @@ impl Operation for TransformBounds {
 
     fn answer(inputs: &mut Inputs<'_>, out: &mut Answer) -> Option<()> {
         let m = inputs.matrix()?;
-        match transform::transform_bounds(m, inputs.bounds()?) {
-            Some(b) => out.bounds(b),
-            None => Some(()),
-        }
+        let moved = transform::transform_bounds(m, inputs.bounds()?);
+        out.option(moved, Answer::bounds)
     }
 }
 
@@ -77,10 +73,10 @@ impl Operation for LookAt {
     fn answer(inputs: &mut Inputs<'_>, out: &mut Answer) -> Option<()> {
         let pos = inputs.point()?;
         let look = inputs.point()?;
-        if let Some(t) = transform::look_at(pos, look, inputs.vector()?) {
+        let view = transform::look_at(pos, look, inputs.vector()?);
+        out.option(view, |out, t| {
             out.matrix(t.m)?;
-            out.matrix(t.m_inv)?;
-        }
-        Some(())
+            out.matrix(t.m_inv)
+        })
     }
 }

@@ -1,6 +1,7 @@
 // The curves for callers in C and Rust (include/curve.h): each function answers 0, a refusal's number, or of
 // curve_intersect and curve_nearest 1 for a miss, and writes its values through the pointers it is given. A refusal
-// leaves what they point to, but for the line that curve_sheet writes with every reply.
+// leaves what they point to, but for the line that curve_sheet writes with every reply. The header has no struct: both
+// matrices, the flag and the ray come one by one, and so do the parameters of laying.
 #![tactic(auto)]
 
 mod lists;

@@ -10,7 +10,7 @@ use limits::Refusal;
 pub fn status(answer: Result<(), Refusal>) -> u32
     ensures { result ≡ status_of answer }
 {
-    answer.map_or_else(Refusal::number, |()| 0)
+    put(answer, &mut ())
 }
 
 pub fn put<T: Drop>(answer: Result<T, Refusal>, out: &mut T) -> u32

@@ -8,7 +8,7 @@ use interaction::RECORD_FLOATS;
 use intersect::Intersection;
 use matrix::{MATRIX_FLOATS, Matrix4x4};
 
-// Answers 0 with a hit and 1 with a miss, or its refusal. C has no struct for both matrices, the flag and the ray.
+// Answers 0 with a hit and 1 with a miss, or its refusal. A miss tells how many were looked at too, so this is no `put_hit`.
 #[tactic(auto, unfolding(crate::specs::Calls::met_by))]
 #[unsafe(no_mangle)]
 pub extern "C" fn curve_intersect(

@@ -6,7 +6,7 @@ ghost use Rattle.curve_c.specs.Calls.{beams_after, counts_after};
 
 use sheet::{RAYS_FLOATS, Sheet, SheetRefusal};
 
-// Answers 0 with what a sheet holds, or its refusal with the line.
+// Answers 0 with what a sheet holds, or its refusal with the line: no `put`, by which a refusal leaves the output.
 fn put_reply(
     reply: Result<Sheet, SheetRefusal>,
     beams: &mut [f32; RAYS_FLOATS],

@@ -1,17 +1,23 @@
--- The loop that chooses the nearest anew: what it holds after i turns. Assumes nothing.
-use mathlib.Core.Path.{◌≡◌, refl}
+-- The chain that chooses the nearest anew: what it comes to over the first n places. Assumes nothing.
+use mathlib.Core.Path.{◌≡◌, refl, sym, ap, ◌∙◌}
 use mathlib.Core.Bool.{Bool, true, false, cond}
-use mathlib.Core.List.{List}
+use mathlib.Core.List.{List, [], ◌∷◌, ◌++◌}
 use mathlib.Core.Option as math
-use Prim.Native.Nat.{ℕ, ◌+◌, ◌<◌}
-use native.Mathlib.Numerals.{add-one}
+use Prim.Native.Nat.{ℕ, zero, suc, ◌+◌, ◌≤◌, ◌<◌}
+use native.Mathlib.Numerals.{add-one, unary_clauses}
+use native.Mathlib.Omega.{arith}
 use lib.Ieee.{Float, lt}
 use lib.ListN.{length}
 use Rattle.std.specs.Prelude.{Option, Some, None, IfSome, option_map}
+use Rattle.std.specs.List.{fold, filter, range_with_len}
+use Rattle.std.proofs.iter.Rest.{range_with_len_last}
+use Rattle.std.proofs.lemmas.List.Elements.{filter-append}
+use Rattle.std.proofs.lemmas.List.Sums.{fold-append}
 use Rattle.bisection.specs.Below.{better, best_below}
 use Rattle.nearest.specs.Nearest.{is_hit, distance_in}
-use Rattle.curve_set.specs.Layout.{Kept}
-use Rattle.curve_set.specs.Best.{answer_at, place_word, word_of, best_of, best_word, nearer}
+use Rattle.curve_set.specs.Layout.{Kept, count_of, set_of}
+use Rattle.curve_set.specs.Best.{answer_at, place_word, word_of, best_of, best_word, is_hit_at, distance_at, nearer}
+use Rattle.curve_set.proofs.Read.{hit_at, distance-at}
 
 -- a place below n stays one
 pub nearer_within : (n : ℕ) (best : Option (ℕ × Float)) (p : ℕ) (d : Float) → IfSome best (λ x. x.0 < n) → p < n → IfSome (nearer best p d) (λ x. x.0 < n)
@@ -70,3 +76,37 @@ module _ (s : List Kept) where
       go : (o : math.Option ℕ) → place_word (option_map (λ x. x.0) (at_distance o)) ≡ word_of o
       go math.none = refl
       go (math.some k) = refl
+
+  -- it is one of the first n
+  pub best_within : (m n : ℕ) → n ≤ m → IfSome (best_so_far n) (λ x. x.0 < m)
+  best_within m zero l = rw (← best-none) tt
+  best_within m (suc n) l = rw (← add-one n) (go (best_within m n (omega arith)) (hits n) refl)
+    where
+      go : IfSome (best_so_far n) (λ x. x.0 < m) → (b : Bool) → hits n ≡ b → IfSome (best_so_far (n + 1)) (λ x. x.0 < m)
+      go before true e = rw (best_hit n e) (nearer_within m (best_so_far n) n (distance_in (answer_at s n)) before (omega arith))
+      go before false e = rw (best_miss n e) before
+
+range_more : (n : ℕ) → range_with_len 0 (suc n) ≡ range_with_len 0 n ++ n ∷ []
+range_more n = simp unary_clauses at (range_with_len_last 0 (suc n) (omega arith))
+
+module _ (f : List Float) (w : List ℕ) where
+  abbrev pub nearer_at : Option (ℕ × Float) → ℕ → Option (ℕ × Float)
+  nearer_at best p = nearer best p (distance_at f p)
+
+  -- one place more
+  place_more : (n : ℕ) → n < count_of w → fold nearer_at (best_so_far (set_of f w) n) (filter (is_hit_at w) (n ∷ [])) ≡ best_so_far (set_of f w) (n + 1)
+  place_more n h = go (is_hit_at w n) refl
+    where
+      go : (b : Bool) → is_hit_at w n ≡ b → fold nearer_at (best_so_far (set_of f w) n) (filter (is_hit_at w) (n ∷ [])) ≡ best_so_far (set_of f w) (n + 1)
+      go true e = rw (e, distance-at f w n h e) (sym (best_hit (set_of f w) n (sym (hit_at f w n h) ∙ e)))
+      go false e = rw e (sym (best_miss (set_of f w) n (sym (hit_at f w n h) ∙ e)))
+
+  pub best_chained : (n : ℕ) → n ≤ count_of w → fold nearer_at None (filter (is_hit_at w) (range_with_len 0 n)) ≡ best_so_far (set_of f w) n
+  best_chained zero h = best-none (set_of f w)
+  best_chained (suc n) h =
+      ap (λ l. fold nearer_at None (filter (is_hit_at w) l)) (range_more n)
+      ∙ ap (fold nearer_at None) (filter-append (is_hit_at w) (range_with_len 0 n) (n ∷ []))
+      ∙ fold-append nearer_at None (filter (is_hit_at w) (range_with_len 0 n)) (filter (is_hit_at w) (n ∷ []))
+      ∙ ap (λ b. fold nearer_at b (filter (is_hit_at w) (n ∷ []))) (best_chained n (omega arith))
+      ∙ place_more n (omega arith)
+      ∙ ap (best_so_far (set_of f w)) (add-one n)

@@ -5,13 +5,13 @@ use mathlib.Core.List.{List, [], ◌∷◌}
 use Prim.Native.Nat.{ℕ, zero, suc, ◌+◌, ◌-◌, ◌*◌, ◌≤◌, ◌<◌}
 use native.Mathlib.Nat.{zero-add, add-zero, suc-add}
 use native.Mathlib.Omega.{arith}
-use borrow.Author.Tests.{lt-ltb, le-ltb}
+use borrow.Author.Tests.{lt-ltb, le-ltb, eqb-true, eqb-false}
 use lib.Dec.{eqb, lit<}
 use lib.Ieee.{Float, nan}
 use lib.ListN.{length, get_or, take, drop, get_or-eq_default}
 use lib.Seq.{get_or-take, get_or-drop, drop-drop, take-nil}
 use Rattle.std.specs.Prelude.{Some, None}
-use Rattle.std.specs.List.{position}
+use Rattle.std.specs.List.{find, position, range_with_len}
 use Rattle.std.proofs.lemmas.List.Sums.{prefix_len_is}
 use Rattle.interaction.specs.Floats.{record_size, record_from}
 use Rattle.nearest.specs.Nearest.{is_hit, distance_in}
@@ -111,6 +111,22 @@ module _ (f : List Float) (w : List ℕ) (number : ℕ) where
       let long = length-set f w in
       let all : length (set_of f w) ≤ length (set_of f w) = omega arith in
       rw (prefix_len_is (λ x. not (named number x)) (set_of f w) (length (set_of f w)) no_row all (missed (length (set_of f w)) (omega arith) (λ k b. h k (omega arith))) (λ l. absurd (omega arith)), le-ltb (length (set_of f w)) (length (set_of f w)) all)
+
+  more_missed : (i : ℕ) → misses i → eqb (number_at w i) number ≡ false → misses (i + 1)
+  more_missed i h e k l = go (eqb k i) refl
+    where
+      go : (b : Bool) → eqb k i ≡ b → eqb (number_at w k) number ≡ false
+      go true s = rw (eqb-true k i s) e
+      go false s = let apart = eqb-false k i s in h k (omega arith)
+
+  -- among the places from i on
+  pub position_from : (i n : ℕ) → i + n ≡ count_of w → misses i → find (λ p. eqb (number_at w p) number) (range_with_len i n) ≡ position (named number) (set_of f w)
+  position_from i zero e h = position_missing (λ k l. h k (omega arith))
+  position_from i (suc n) e h = go (eqb (number_at w i) number) refl (λ s. position_from (i + 1) n (omega arith) (more_missed i h s))
+    where
+      go : (b : Bool) → eqb (number_at w i) number ≡ b → (eqb (number_at w i) number ≡ false → find (λ p. eqb (number_at w p) number) (range_with_len (i + 1) n) ≡ position (named number) (set_of f w)) → find (λ p. eqb (number_at w p) number) (range_with_len i (suc n)) ≡ position (named number) (set_of f w)
+      go true s rest = rw s (position_found i (omega arith) h s)
+      go false s rest = rw s (rest s)
 
 -- ---- what the kept place shows
 

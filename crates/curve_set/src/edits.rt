@@ -31,7 +31,7 @@ fn floats_of(hit: Option<SurfaceInteraction>) -> [f32; RECORD_FLOATS]
 }
 
 /// The two arrays that a caller lends as a set, to be changed.
-#[derive(Drop)]
+#[derive(Debug, Drop)]
 pub struct SetMut<'a> {
     pub floats: &'a mut [f32; SET_FLOATS],
     pub words: &'a mut [u32; SET_WORDS],

@@ -5,7 +5,7 @@ use geometry::Ray;
 use matrix::Matrix4x4;
 
 /// What is the same for all curves of a set.
-#[derive(Clone, Copy)]
+#[derive(Clone, Copy, Debug, PartialEq)]
 pub struct Head {
     pub object_to_world: Matrix4x4,
     pub world_to_object: Matrix4x4,

@@ -25,7 +25,7 @@ fn nearer(best: Option<(usize, f32)>, p: usize, d: f32) -> Option<(usize, f32)>
 }
 
 /// The two arrays that a caller lends as a set, to be read. No call trusts what it finds there.
-#[derive(Clone, Copy)]
+#[derive(Clone, Copy, Debug)]
 pub struct Set<'a> {
     pub floats: &'a [f32; SET_FLOATS],
     pub words: &'a [u32; SET_WORDS],
@@ -41,16 +41,11 @@ impl Set<'_> {
         (self.words[COUNT] as usize).min(CURVES)
     }
 
-    // The place of the curve with that number. A chain over the places would have to bound each of them again: no plainer.
+    // The place of the curve with that number.
     pub(crate) fn position(&self, number: u32) -> Option<usize>
         ensures { result ≡ position (named number) (set_of self.now.floats.now self.now.words.now) }
     {
-        for p in 0..self.count() {
-            if self.words[HEAD_WORDS + NUMBER + p * ROW_WORDS] == number {
-                return Some(p);
-            }
-        }
-        None
+        (0..self.count()).find(|p| self.words[HEAD_WORDS + NUMBER + p * ROW_WORDS] == number)
     }
 
     // Whether the curve at p is crossed.
@@ -66,14 +61,11 @@ impl Set<'_> {
         ensures word { place_word result ≡ best_word (set_of self.now.floats.now self.now.words.now) }
         ensures within { IfSome result (λ p. p < 64) }
     {
-        let mut best = None;
-        for p in 0..self.count() {
-            if self.is_hit(p) {
-                let d = self.floats[HEAD_FLOATS + CURVE_ROOM + p * ROW_FLOATS];
-                best = nearer(best, p, d);
-            }
-        }
-        best.map(|(p, _)| p)
+        let distance = |p: usize| self.floats[HEAD_FLOATS + CURVE_ROOM + p * ROW_FLOATS];
+        (0..self.count())
+            .filter(|p| self.is_hit(*p))
+            .fold(None, |best, p| nearer(best, p, distance(p)))
+            .map(|(p, _)| p)
     }
 
     #[tactic(auto, unfolding(crate::specs::Layout::head_of, crate::specs::Layout::head_from))]

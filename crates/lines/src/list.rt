@@ -3,7 +3,8 @@
 
 // Fills a list as it is before the call.
 pub fn fill(list: &mut [f32]) {
-    for (x, i) in list.iter_mut().zip(0..=u32::MAX) {
+    for (i, x) in list.iter_mut().enumerate() {
+        let i = (i % 0x1_0000_0000) as u32;
         *x = float::of_bits(i.wrapping_mul(2654435761) ^ 0x3f80_0000);
     }
 }

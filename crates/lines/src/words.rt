@@ -31,7 +31,8 @@ impl<const N: usize> Words<N> {
         }
     }
 
-    // Adds a word behind the others, where there is room.
+    // Adds a word behind the others, where there is room. It answers an `Option` and no `Result`, so that one `?` ends an
+    // answer here as at an input that its line has no more of.
     pub fn push(&mut self, word: u32) -> Option<()>
         ensures room { IsSome result ↔ (length self.old < N) }
         ensures pushed { OnSome result (self.new ≡ self.old ++ word ∷ []) }

@@ -13,7 +13,7 @@ use std::io::{Read, Write};
 use transfer::fail;
 
 // How many lines were compared, and how many of them differ.
-#[derive(Clone, Copy, Debug)]
+#[derive(Clone, Copy, Debug, Default, PartialEq, Eq)]
 struct Tally {
     lines: u64,
     differ: u64,
@@ -43,10 +43,7 @@ fn compare_lines<O: Operation, W: Write>(
 fn compare_all<O: Operation, W: Write>(out: &mut W, file: &mut File) -> Tally {
     let mut buf = [0u8; 65536];
     let mut scan = Scan::new();
-    let mut tally = Tally {
-        lines: 0,
-        differ: 0,
-    };
+    let mut tally = Tally::default();
     for _ in 0..u64::MAX {
         let n = file.read(&mut buf).unwrap_or(0);
         if n == 0 {
