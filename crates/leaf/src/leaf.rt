@@ -1,13 +1,13 @@
 // The leaf: recursive_intersect at depth 0.
 ghost use Rattle.std.specs.Prelude.{◌≡◌};
-ghost use Rattle.overlap.specs.Subcurve.{subcurve_in};
 ghost use Rattle.leaf.specs.Leaf.{segment_dir, edge_at, line_at, v_of, crossing_at, crossing_of, crosswise_of, along_of, frame_of, leaf_from, leaf_of};
 
-use bezier::{Cubic, Eval, POINTS, eval_bezier};
+use bezier::{Cubic, Eval, eval_bezier};
 use curve::CurveRef;
 use frame::View;
-use geometry::{Point2f, Point3f, Vector2f, Vector3f, clamp, lerp};
+use geometry::{Point2f, Point3f, Vector2f, Vector3f, clamp};
 use limits::Refusal;
+use overlap::PaddedSubcurve;
 use transform::transform_vector;
 
 // The distance along the ray, and the parameters along and across the curve.
@@ -67,20 +67,13 @@ fn v_of(pc: Eval, dist2: f32, hit_width: f32) -> f32
 }
 
 // The tests of the curve's point nearest the ray.
-#[tactic(auto, unfolding(crate::specs::Leaf::crossing_at, overlap::specs::Subcurve::subcurve_in))]
-fn cross_at(
-    curve: &CurveRef<'_>,
-    view: &View,
-    p: &[f32; POINTS],
-    u0: f32,
-    u1: f32,
-    w: f32,
-) -> Option<Crossing>
-    ensures { result ≡ crossing_at curve.now view.now (subcurve_in p.now u0 u1) w }
+#[tactic(auto, unfolding(crate::specs::Leaf::crossing_at))]
+fn cross_at(curve: &CurveRef<'_>, view: &View, s: &PaddedSubcurve, w: f32) -> Option<Crossing>
+    ensures { result ≡ crossing_at curve.now view.now s.now w }
 {
-    let u = clamp(lerp(w, u0, u1), u0, u1);
+    let u = s.parameter_at(w);
     let hit_width = curve.width_at(u);
-    let pc = Eval::from(&eval_bezier(p, clamp(w, 0.0, 1.0)));
+    let pc = s.eval_bezier(clamp(w, 0.0, 1.0));
     let dist2 = pc.p.x * pc.p.x + pc.p.y * pc.p.y;
     if (dist2 > hit_width * hit_width * 0.25) | (pc.p.z < 0.0) | (pc.p.z > view.zmax) {
         None
@@ -93,24 +86,17 @@ fn cross_at(
     }
 }
 
-// The points p are the subcurve's, from u0 to u1.
-#[tactic(auto, unfolding(crate::specs::Leaf::crossing_of, overlap::specs::Subcurve::subcurve_in))]
-fn cross_leaf(
-    curve: &CurveRef<'_>,
-    view: &View,
-    p: &[f32; POINTS],
-    u0: f32,
-    u1: f32,
-) -> Option<Crossing>
-    ensures { result ≡ crossing_of curve.now view.now (subcurve_in p.now u0 u1) }
+#[tactic(auto, unfolding(crate::specs::Leaf::crossing_of))]
+fn cross_leaf(curve: &CurveRef<'_>, view: &View, s: &PaddedSubcurve) -> Option<Crossing>
+    ensures { result ≡ crossing_of curve.now view.now s.now }
 {
-    let cp = Cubic::from(p);
+    let cp = s.control_points();
     let dir = segment_dir(cp);
     let denom = dir.length_squared();
     if (edge_at(cp.p0, cp.p1) < 0.0) | (edge_at(cp.p3, cp.p2) < 0.0) | (denom == 0.0) {
         None
     } else {
-        cross_at(curve, view, p, u0, u1, line_at(cp, dir, denom))
+        cross_at(curve, view, s, line_at(cp, dir, denom))
     }
 }
 
@@ -188,10 +174,10 @@ fn leaf_from(curve: &CurveRef<'_>, view: &View, at: Crossing) -> Leaf
 }
 
 #[tactic(auto, unfolding(crate::specs::Leaf::leaf_of))]
-pub fn run_leaf(curve: &CurveRef<'_>, view: &View, p: &[f32; POINTS], u0: f32, u1: f32) -> Leaf
-    ensures { result ≡ leaf_of curve.now view.now (subcurve_in p.now u0 u1) }
+pub fn run_leaf(curve: &CurveRef<'_>, view: &View, s: &PaddedSubcurve) -> Leaf
+    ensures { result ≡ leaf_of curve.now view.now s.now }
 {
-    match cross_leaf(curve, view, p, u0, u1) {
+    match cross_leaf(curve, view, s) {
         Some(at) => leaf_from(curve, view, at),
         None => Leaf::Fails,
     }
