@@ -1,5 +1,6 @@
 // The walk through a curve's subcurves, cut in two again and again.
-ghost use Rattle.std.specs.Prelude.{◌≡◌, false, suc, ◌+◌, ◌≤◌, ◌^◌};
+ghost use Rattle.std.specs.Prelude.{◌≡◌, false, suc, ◌+◌, ◌≤◌, ◌^◌, is_some};
+ghost use Rattle.std.specs.ControlFlow.{break_value};
 ghost use Rattle.frame.specs.Frame.{framed_along};
 ghost use Rattle.overlap.specs.Depth.{depth_of};
 ghost use Rattle.walk.specs.Steps.{is_over, walk_in, half_in};
@@ -7,10 +8,11 @@ ghost use Rattle.walk.specs.Walk.{reached_by, Walked};
 
 use crate::rule::Rule;
 use curve::CurveRef;
-use frame::{Aim, View, frame_aimed};
-use leaf::{Leaf, run_leaf};
+use frame::{Aim, frame_aimed};
+use leaf::{Leaf, SeenCurve};
 use limits::Refusal;
 use overlap::{HALF, PaddedSubcurve, Subcurve, WHOLE, max_depth, whole};
+use std::ops::ControlFlow;
 
 // What a walk has come to: the answer of the leaf that decides so far, `Fails` where none passed, and how many subcurves
 // were entered.
@@ -20,61 +22,65 @@ pub struct Reached {
     pub looked: u32,
 }
 
-// What a walk holds fixed.
+// A curve as a ray sees it, and the rule: what a walk holds fixed.
 #[derive(Clone, Copy)]
 struct Walk<'a> {
-    curve: &'a CurveRef<'a>,
-    view: View,
+    seen: SeenCurve<'a>,
     rule: Rule,
 }
 
 impl Walk<'_> {
-    // The walk calls the half step, which calls the walk; depth falls. Whether the walk is over is the answer.
+    // The walk calls the half step, which calls the walk; depth falls. A break says that the walk is over.
     #[cycle(half_step_recursive_intersect)]
-    fn recursive_intersect(&self, s: &PaddedSubcurve, depth: u32, reached: &mut Reached) -> bool
+    fn recursive_intersect(
+        &self,
+        s: &PaddedSubcurve,
+        depth: u32,
+        reached: &mut Reached,
+    ) -> ControlFlow<()>
         requires room { reached.old.looked + 2 ^ suc depth ≤ 2 ^ 32 }
         requires goes_on { is_over self.now.rule reached.old ≡ false }
-        ensures walked { reached.new ≡ walk_in self.now.rule self.now.curve.now self.now.view depth s.now reached.old }
-        ensures over { result ≡ is_over self.now.rule reached.new }
+        ensures walked { reached.new ≡ walk_in self.now.rule self.now.seen.curve.now self.now.seen.view depth s.now reached.old }
+        ensures over { is_some (break_value result) ≡ is_over self.now.rule reached.new }
     {
         reached.looked += 1;
         if depth == 0 {
-            let leaf = run_leaf(self.curve, &self.view, s);
+            let leaf = self.seen.run_leaf(s);
             self.rule.settle(leaf, &mut reached.leaf)
         } else {
             let (low, high) = s.halves();
-            self.half_step(&low, depth - 1, reached) || self.half_step(&high, depth - 1, reached)
+            self.half_step(&low, depth - 1, reached)?;
+            self.half_step(&high, depth - 1, reached)
         }
     }
 
     #[cycle(half_step_recursive_intersect)]
-    fn half_step(&self, s: &PaddedSubcurve, depth: u32, reached: &mut Reached) -> bool
+    fn half_step(&self, s: &PaddedSubcurve, depth: u32, reached: &mut Reached) -> ControlFlow<()>
         requires room { reached.old.looked + 2 ^ suc depth ≤ 2 ^ 32 }
         requires goes_on { is_over self.now.rule reached.old ≡ false }
-        ensures walked { reached.new ≡ half_in self.now.rule self.now.curve.now self.now.view depth s.now reached.old }
-        ensures over { result ≡ is_over self.now.rule reached.new }
+        ensures walked { reached.new ≡ half_in self.now.rule self.now.seen.curve.now self.now.seen.view depth s.now reached.old }
+        ensures over { is_some (break_value result) ≡ is_over self.now.rule reached.new }
     {
-        if s.is_thrown::<HALF>(self.curve, self.view.zmax) {
-            false
+        if s.is_thrown::<HALF>(self.seen.curve, self.seen.view.zmax) {
+            ControlFlow::Continue(())
         } else {
             self.recursive_intersect(s, depth, reached)
         }
     }
-}
 
-// The walk from the whole.
-fn walk_whole(curve: &CurveRef<'_>, view: View, s: Subcurve, rule: Rule, reached: &mut Reached)
-    ensures { reached.new ≡ reached_by rule curve.now view s (depth_of curve.now s.cp) }
-{
-    *reached = Reached {
-        leaf: Leaf::Fails,
-        looked: 0,
-    };
-    let whole = PaddedSubcurve::from(s);
-    if !whole.is_thrown::<WHOLE>(curve, view.zmax) {
-        let cuts = max_depth(curve, s.cp);
-        let walk = Walk { curve, view, rule };
-        walk.recursive_intersect(&whole, cuts, reached);
+    // The walk from the whole.
+    fn walk_whole(&self, s: Subcurve, reached: &mut Reached)
+        ensures { reached.new ≡ reached_by self.now.rule self.now.seen.curve.now self.now.seen.view s (depth_of self.now.seen.curve.now s.cp) }
+    {
+        *reached = Reached {
+            leaf: Leaf::Fails,
+            looked: 0,
+        };
+        let whole = PaddedSubcurve::from(s);
+        if !whole.is_thrown::<WHOLE>(self.seen.curve, self.seen.view.zmax) {
+            let cuts = max_depth(self.seen.curve, s.cp);
+            self.recursive_intersect(&whole, cuts, reached);
+        }
     }
 }
 
@@ -90,12 +96,13 @@ pub fn walk_aimed(
     ensures { Walked rule curve.now (framed_along curve.now a) result reached.new }
 {
     let framed = frame_aimed(curve, a)?;
-    walk_whole(
-        curve,
-        framed.view,
-        whole(curve, framed.cubic),
+    let walk = Walk {
+        seen: SeenCurve {
+            curve,
+            view: framed.view,
+        },
         rule,
-        reached,
-    );
+    };
+    walk.walk_whole(whole(curve, framed.cubic), reached);
     Ok(())
 }
