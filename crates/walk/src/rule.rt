@@ -1,11 +1,9 @@
 // Which leaf decides, and what a walk has come to by it.
-ghost use Rattle.std.specs.Prelude.{◌≡◌, is_some};
-ghost use Rattle.std.specs.ControlFlow.{break_value};
+ghost use Rattle.std.specs.Prelude.{◌≡◌};
 ghost use Rattle.walk.specs.Rule.{is_counted, is_better, ends};
 ghost use Rattle.walk.specs.Steps.{takes_place, later};
 
 use leaf::Leaf;
-use std::ops::ControlFlow;
 
 // `Last`: the last leaf that passes, and the walk ends at one with no frame or at distance zero.
 // `Nearest`: the nearest leaf that passes, the first of those as near, and the walk ends at one with no frame. A leaf at
@@ -68,24 +66,20 @@ impl Rule {
         }
     }
 
-    // What a leaf's answer makes of the one that decided so far. A break says that it ends the walk.
+    // What a leaf's answer makes of the one that decided so far, and whether it ends the walk.
     #[tactic(auto, using(crate::proofs::Rules::none_ends), unfolding(crate::specs::Steps::later))]
-    pub fn settle(self, l: Leaf, so_far: &mut Leaf) -> ControlFlow<()>
+    pub fn settle(self, l: Leaf, so_far: &mut Leaf) -> bool
         ensures decided { so_far.new ≡ later self l so_far.old }
-        ensures ended { is_some (break_value result) ≡ ends self l }
+        ensures ended { result ≡ ends self l }
     {
         let is_taken = match l {
             Leaf::Passes(at, _) => self.takes_place(at.t, so_far),
-            Leaf::Fails => return ControlFlow::Continue(()),
+            Leaf::Fails => return false,
             Leaf::NoFrame(_, distance) => self.is_counted(distance),
         };
         if is_taken {
             *so_far = l;
         }
-        if self.ends_at(&l) {
-            ControlFlow::Break(())
-        } else {
-            ControlFlow::Continue(())
-        }
+        self.ends_at(&l)
     }
 }

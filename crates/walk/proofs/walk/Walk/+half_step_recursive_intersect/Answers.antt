@@ -1,5 +1,5 @@
 -- What the two functions give is what `Steps` says of a step: of a half, of a leaf, and of a walk that is cut. Assumes nothing.
-use Rattle.std.proofs.Common.{refl, sym, ◌∙◌, arith}
+use Rattle.std.proofs.Common.{refl, ◌∙◌, arith}
 use Rattle.walk.proofs.Steps.{room_low, room_high, half_out, half_in_lem, walk_ends, over-entered, over-settled, one_more, walk_stops, walk_goes}
 use Rattle.walk.proofs.walk.Walk.+half_step_recursive_intersect.Goals as goal
 
@@ -14,9 +14,9 @@ pub recursive_intersect-half_step-requires : goal.recursive_intersect-half_step-
 recursive_intersect-half_step-requires t c =
     (omega arith, (room_low _ _ c.if-depth-eq0.false c.requires.room, over-entered _ _ _ ∙ c.requires.goes_on))
 
-pub recursive_intersect-half_step-requires-else-depth-eq0 : goal.recursive_intersect-half_step-requires-else-depth-eq0
-recursive_intersect-half_step-requires-else-depth-eq0 t c =
-    (omega arith, (room_high _ _ _ _ _ _ _ _ c.if-depth-eq0.false c.requires.room (one_more _) c.half_step.ensures.walked, rw c.in_ok-half_step.was at (sym c.half_step.ensures.over)))
+pub recursive_intersect-half_step-requires-else-half_step : goal.recursive_intersect-half_step-requires-else-half_step
+recursive_intersect-half_step-requires-else-half_step t c =
+    (omega arith, (room_high _ _ _ _ _ _ _ _ c.if-depth-eq0.false c.requires.room (one_more _) c.half_step.ensures.walked, (cc)))
 
 pub recursive_intersect-returns-then-depth-eq0-clause-walked : goal.recursive_intersect-returns-then-depth-eq0-clause-walked
 recursive_intersect-returns-then-depth-eq0-clause-walked t c =
@@ -26,10 +26,10 @@ pub recursive_intersect-returns-then-depth-eq0-clause-over : goal.recursive_inte
 recursive_intersect-returns-then-depth-eq0-clause-over t c =
     over-settled _ _ _ _ _ _ c.requires.goes_on c.settle.ensures.decided c.settle.ensures.ended
 
-pub recursive_intersect-returns-in_err-half_step-clause-walked : goal.recursive_intersect-returns-in_err-half_step-clause-walked
-recursive_intersect-returns-in_err-half_step-clause-walked t c =
-    walk_stops _ _ _ _ _ _ _ _ _ _ _ c.if-depth-eq0.false (one_more _) c.halves-low.ensures.low c.halves-low.ensures.high c.half_step.ensures.walked c.half_step.ensures.over (rw c.in_err-half_step.was refl)
+pub recursive_intersect-returns-then-half_step-clause-walked : goal.recursive_intersect-returns-then-half_step-clause-walked
+recursive_intersect-returns-then-half_step-clause-walked t c =
+    walk_stops _ _ _ _ _ _ _ _ _ _ _ c.if-depth-eq0.false (one_more _) c.halves-low.ensures.low c.halves-low.ensures.high c.half_step.ensures.walked c.half_step.ensures.over c.if-half_step.true
 
-pub recursive_intersect-returns-in_ok-half_step-clause-walked : goal.recursive_intersect-returns-in_ok-half_step-clause-walked
-recursive_intersect-returns-in_ok-half_step-clause-walked t c =
-    walk_goes _ _ _ _ _ _ _ _ _ _ _ c.if-depth-eq0.false (one_more _) c.halves-low.ensures.low c.halves-low.ensures.high c.half_step.ensures.walked c.half_step.ensures.over (rw c.in_ok-half_step.was refl) _ c.half_step-else-depth-eq0.ensures.walked
+pub recursive_intersect-returns-else-half_step-clause-walked : goal.recursive_intersect-returns-else-half_step-clause-walked
+recursive_intersect-returns-else-half_step-clause-walked t c =
+    walk_goes _ _ _ _ _ _ _ _ _ _ _ c.if-depth-eq0.false (one_more _) c.halves-low.ensures.low c.halves-low.ensures.high c.half_step.ensures.walked c.half_step.ensures.over c.if-half_step.false _ c.half_step-else-half_step.ensures.walked
