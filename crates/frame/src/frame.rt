@@ -13,7 +13,7 @@ use transform::{Transform, look_at, transform_point, transform_ray_error};
 
 // What a leaf needs of the ray: its direction in the object's frame, how long that is, how far the ray reaches in its
 // own frame, and the transform from the object to it. The ray's time has no part in it.
-#[derive(Clone, Copy)]
+#[derive(Clone, Copy, Debug, PartialEq)]
 pub struct View {
     pub d: Vector3f,
     pub ray_length: f32,
@@ -31,7 +31,7 @@ pub struct Aim {
 }
 
 // The ray in the object's frame with its view, and the curve's control points in the ray's frame.
-#[derive(Clone, Copy)]
+#[derive(Clone, Copy, Debug, PartialEq)]
 pub struct Framed {
     pub ray: Ray,
     pub view: View,

@@ -1,13 +1,13 @@
 // The leaf: recursive_intersect at depth 0.
 ghost use Rattle.std.specs.Prelude.{◌≡◌};
-ghost use Rattle.overlap.specs.Subcurve.{subcurve_in};
 ghost use Rattle.leaf.specs.Leaf.{segment_dir, edge_at, line_at, v_of, crossing_at, crossing_of, crosswise_of, along_of, frame_of, leaf_from, leaf_of};
 
-use bezier::{Cubic, Eval, POINTS, eval_bezier};
+use bezier::{Cubic, Eval, eval_bezier};
 use curve::CurveRef;
 use frame::View;
-use geometry::{Point2f, Point3f, Vector2f, Vector3f, clamp, lerp};
+use geometry::{Point2f, Point3f, Vector2f, Vector3f, clamp};
 use limits::Refusal;
+use overlap::PaddedSubcurve;
 use transform::transform_vector;
 
 // The distance along the ray, and the parameters along and across the curve.
@@ -66,54 +66,6 @@ fn v_of(pc: Eval, dist2: f32, hit_width: f32) -> f32
     }
 }
 
-// The tests of the curve's point nearest the ray.
-#[tactic(auto, unfolding(crate::specs::Leaf::crossing_at, overlap::specs::Subcurve::subcurve_in))]
-fn cross_at(
-    curve: &CurveRef<'_>,
-    view: &View,
-    p: &[f32; POINTS],
-    u0: f32,
-    u1: f32,
-    w: f32,
-) -> Option<Crossing>
-    ensures { result ≡ crossing_at curve.now view.now (subcurve_in p.now u0 u1) w }
-{
-    let u = clamp(lerp(w, u0, u1), u0, u1);
-    let hit_width = curve.width_at(u);
-    let pc = eval_bezier(p, clamp(w, 0.0, 1.0));
-    let dist2 = pc.p.x * pc.p.x + pc.p.y * pc.p.y;
-    if (dist2 > hit_width * hit_width * 0.25) | (pc.p.z < 0.0) | (pc.p.z > view.zmax) {
-        None
-    } else {
-        Some(Crossing {
-            t: pc.p.z / view.ray_length,
-            u,
-            v: v_of(pc, dist2, hit_width),
-        })
-    }
-}
-
-// The points p are the subcurve's, from u0 to u1.
-#[tactic(auto, unfolding(crate::specs::Leaf::crossing_of, overlap::specs::Subcurve::subcurve_in))]
-fn cross_leaf(
-    curve: &CurveRef<'_>,
-    view: &View,
-    p: &[f32; POINTS],
-    u0: f32,
-    u1: f32,
-) -> Option<Crossing>
-    ensures { result ≡ crossing_of curve.now view.now (subcurve_in p.now u0 u1) }
-{
-    let cp = Cubic::from(p);
-    let dir = segment_dir(cp);
-    let denom = dir.length_squared();
-    if (edge_at(cp.p0, cp.p1) < 0.0) | (edge_at(cp.p3, cp.p2) < 0.0) | (denom == 0.0) {
-        None
-    } else {
-        cross_at(curve, view, p, u0, u1, line_at(cp, dir, denom))
-    }
-}
-
 // The partial derivatives, the normal before it is turned, and the direction back along the ray.
 #[derive(Clone, Copy, Debug, PartialEq)]
 pub struct Frame {
@@ -151,24 +103,6 @@ fn along(d: Vector3f, dpdu: Vector3f, dpdv: Vector3f) -> Result<Frame, Refusal>
     Ok(Frame { dpdu, dpdv, n, wo })
 }
 
-// The frame at u. The derivative is that of the Bezier segment's own control points.
-#[tactic(auto, unfolding(crate::specs::Leaf::frame_of))]
-fn frame_at(curve: &CurveRef<'_>, view: &View, u: f32) -> Result<Frame, Refusal>
-    ensures { result ≡ frame_of curve.now view.now u }
-{
-    let at = eval_bezier(&curve.segment_points(), u);
-    let zero = Vector3f {
-        x: 0.0,
-        y: 0.0,
-        z: 0.0,
-    };
-    if at.d == zero {
-        return Err(Refusal::ZeroDerivative);
-    }
-    let dpdv = crosswise(view, at.d, curve.width_at(u)).ok_or(Refusal::ZeroAcross)?;
-    along(view.d, at.d, dpdv)
-}
-
 // What a leaf answers. It is no Result: a rule asks of a leaf without a frame, as of one that passes, how far it lies.
 #[derive(Clone, Copy, Debug, PartialEq)]
 pub enum Leaf {
@@ -177,22 +111,84 @@ pub enum Leaf {
     NoFrame(Refusal, f32),
 }
 
-#[tactic(auto, unfolding(crate::specs::Leaf::leaf_from))]
-fn leaf_from(curve: &CurveRef<'_>, view: &View, at: Crossing) -> Leaf
-    ensures { result ≡ leaf_from curve.now view.now at }
-{
-    match frame_at(curve, view, at.u) {
-        Ok(frame) => Leaf::Passes(at, frame),
-        Err(refusal) => Leaf::NoFrame(refusal, at.t),
-    }
+// A curve as a ray sees it: what a walk holds fixed.
+#[derive(Clone, Copy)]
+pub struct SeenCurve<'a> {
+    pub curve: &'a CurveRef<'a>,
+    pub view: View,
 }
 
-#[tactic(auto, unfolding(crate::specs::Leaf::leaf_of))]
-pub fn run_leaf(curve: &CurveRef<'_>, view: &View, p: &[f32; POINTS], u0: f32, u1: f32) -> Leaf
-    ensures { result ≡ leaf_of curve.now view.now (subcurve_in p.now u0 u1) }
-{
-    match cross_leaf(curve, view, p, u0, u1) {
-        Some(at) => leaf_from(curve, view, at),
-        None => Leaf::Fails,
+impl SeenCurve<'_> {
+    // The tests of the curve's point nearest the ray.
+    #[tactic(auto, unfolding(crate::specs::Leaf::crossing_at))]
+    fn cross_at(&self, s: &PaddedSubcurve, w: f32) -> Option<Crossing>
+        ensures { result ≡ crossing_at self.now.curve.now self.now.view s.now w }
+    {
+        let u = s.parameter_at(w);
+        let hit_width = self.curve.width_at(u);
+        let pc = s.eval_bezier(clamp(w, 0.0, 1.0));
+        let dist2 = pc.p.x * pc.p.x + pc.p.y * pc.p.y;
+        if (dist2 > hit_width * hit_width * 0.25) | (pc.p.z < 0.0) | (pc.p.z > self.view.zmax) {
+            None
+        } else {
+            Some(Crossing {
+                t: pc.p.z / self.view.ray_length,
+                u,
+                v: v_of(pc, dist2, hit_width),
+            })
+        }
+    }
+
+    #[tactic(auto, unfolding(crate::specs::Leaf::crossing_of))]
+    fn cross_leaf(&self, s: &PaddedSubcurve) -> Option<Crossing>
+        ensures { result ≡ crossing_of self.now.curve.now self.now.view s.now }
+    {
+        let cp = s.control_points();
+        let dir = segment_dir(cp);
+        let denom = dir.length_squared();
+        if (edge_at(cp.p0, cp.p1) < 0.0) | (edge_at(cp.p3, cp.p2) < 0.0) | (denom == 0.0) {
+            None
+        } else {
+            self.cross_at(s, line_at(cp, dir, denom))
+        }
+    }
+
+    // The frame at u. The derivative is that of the Bezier segment's own control points.
+    #[tactic(auto, unfolding(crate::specs::Leaf::frame_of))]
+    fn frame_at(&self, u: f32) -> Result<Frame, Refusal>
+        ensures { result ≡ frame_of self.now.curve.now self.now.view u }
+    {
+        let at = eval_bezier(&self.curve.segment_points(), u);
+        let zero = Vector3f {
+            x: 0.0,
+            y: 0.0,
+            z: 0.0,
+        };
+        if at.d == zero {
+            return Err(Refusal::ZeroDerivative);
+        }
+        let dpdv = crosswise(&self.view, at.d, self.curve.width_at(u)).ok_or(Refusal::ZeroAcross)?;
+        along(self.view.d, at.d, dpdv)
+    }
+
+    #[tactic(auto, unfolding(crate::specs::Leaf::leaf_from))]
+    fn leaf_from(&self, at: Crossing) -> Leaf
+        ensures { result ≡ leaf_from self.now.curve.now self.now.view at }
+    {
+        match self.frame_at(at.u) {
+            Ok(frame) => Leaf::Passes(at, frame),
+            Err(refusal) => Leaf::NoFrame(refusal, at.t),
+        }
+    }
+
+    // The answer of a subcurve that is cut no further.
+    #[tactic(auto, unfolding(crate::specs::Leaf::leaf_of))]
+    pub fn run_leaf(&self, s: &PaddedSubcurve) -> Leaf
+        ensures { result ≡ leaf_of self.now.curve.now self.now.view s.now }
+    {
+        match self.cross_leaf(s) {
+            Some(at) => self.leaf_from(at),
+            None => Leaf::Fails,
+        }
     }
 }

@@ -8,5 +8,5 @@ mod subcurve;
 mod thrown;
 
 pub use depth::max_depth;
-pub use subcurve::{Subcurve, middle, whole};
-pub use thrown::{HALF, WHOLE, half_width, is_thrown};
+pub use subcurve::{PaddedSubcurve, Subcurve, whole};
+pub use thrown::{HALF, WHOLE};

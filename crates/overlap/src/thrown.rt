@@ -3,18 +3,9 @@
 
 ghost use Rattle.std.specs.Prelude.{◌≡◌, if◌then◌else◌};
 ghost use Rattle.bezier.specs.Points.{cubic_in};
-ghost use Rattle.overlap.specs.Thrown.{half_width, is_off, is_off_z_whole, is_thrown_by, is_whole_thrown_by};
+ghost use Rattle.overlap.specs.Thrown.{is_off, is_off_z_whole, is_thrown_by, is_whole_thrown_by};
 
 use bezier::{Axis, Coordinate, POINTS, axis_in, extent_of};
-use curve::CurveRef;
-
-// Half the larger of the widths at a subcurve's ends.
-#[tactic(auto, unfolding(crate::specs::Thrown::half_width))]
-pub fn half_width(curve: &CurveRef<'_>, u0: f32, u1: f32) -> f32
-    ensures { result ≡ half_width curve.now u0 u1 }
-{
-    0.5 * float::max(curve.width_at(u0), curve.width_at(u1))
-}
 
 // For a half's tests, and for the whole's: in z `intersect` has a plus where recursive_intersect has a minus.
 pub const HALF: bool = false;
@@ -31,7 +22,7 @@ fn is_off<const HAS_PLUS: bool>(a: Axis, w: f32, limit: f32) -> bool
 }
 
 // Whether a half is thrown out, or the whole, with half its width. First y, the extent of which is the smallest as a rule.
-pub fn is_thrown<const IS_WHOLE: bool>(w: f32, zmax: f32, p: &[f32; POINTS]) -> bool
+pub fn is_thrown_by<const IS_WHOLE: bool>(w: f32, zmax: f32, p: &[f32; POINTS]) -> bool
     ensures { result ≡ (if IS_WHOLE then is_whole_thrown_by w zmax (cubic_in p.now) else is_thrown_by w zmax (cubic_in p.now)) }
 {
     is_off::<HALF>(axis_in(p, Coordinate::Y), w, 0.0)

@@ -1,15 +1,12 @@
 -- What a walk comes to by its leaves: the steps lead to what `leaf_by` and `count_by` say. Assumes nothing.
 use mathlib.Core.Bool.{Bool, true, false, cond, ◌||◌}
-use mathlib.Core.List.{List}
 use mathlib.Core.Option.{Option, none, some}
 use mathlib.Core.Path.{◌≡◌, refl, ap, ◌∙◌}
 use Prim.Native.Nat.{ℕ, suc, ◌+◌, ◌^◌, ◌≤◌}
 use native.Mathlib.Numerals.{add-one}
 use native.Mathlib.Omega.{arith}
-use lib.Ieee.{Float}
 use lib.Pow.{pow_mono}
 use Rattle.bezier.specs.declared.cubic.Cubic.{Cubic}
-use Rattle.bezier.specs.Points.{cubic_in}
 use Rattle.bisection.specs.Below.{or_else, at_or}
 use Rattle.bisection.specs.Nodes.{node, first_open, best_open, open_up_to}
 use Rattle.bisection.proofs.Nodes.{before_up_to, before_shut, first_shut, best_shut}
@@ -19,10 +16,9 @@ use Rattle.curve.specs.declared.curve.Curve.{Curve}
 use Rattle.frame.specs.declared.frame.View.{View}
 use Rattle.overlap.specs.declared.subcurve.Subcurve.{Subcurve}
 use Rattle.overlap.specs.Depth.{depth_of}
-use Rattle.overlap.specs.Subcurve.{low_half, high_half, subcurve_in}
-use Rattle.overlap.specs.Thrown.{half_width, is_thrown, is_whole_thrown_by, is_whole_thrown}
+use Rattle.overlap.specs.Subcurve.{low_half, high_half}
+use Rattle.overlap.specs.Thrown.{is_thrown, is_whole_thrown}
 use Rattle.overlap.proofs.DepthMost.{depth_most}
-use Rattle.overlap.proofs.Lent.{subcurve_back}
 use Rattle.leaf.specs.declared.leaf.Leaf.{Leaf}
 use Rattle.leaf.specs.declared.leaf.Leaf.TheVariants.{Fails}
 use Rattle.leaf.specs.Leaf.{leaf_of}
@@ -104,16 +100,10 @@ whole_room c cp =
     let small : suc (depth_of c cp) ≤ 11 = omega (arith, depth_most c cp) in
     omega (arith, pow_mono small)
 
-module _ (rule : Rule) (c : Curve) (v : View) (s : Subcurve) (p : List Float) (lent : cubic_in p ≡ s.cp) where
-  thrown-lent : (b : Bool) → is_whole_thrown_by (half_width c s.u0 s.u1) v.zmax (cubic_in p) ≡ b → is_whole_thrown c v.zmax s ≡ b
-  unfolding is_whole_thrown
-  thrown-lent b e = rw (← lent) e
-
-  pub whole_shut : is_whole_thrown_by (half_width c s.u0 s.u1) v.zmax (cubic_in p) ≡ true → (r : Reached) → r ≡ with_count 0 Fails → r ≡ reached_by rule c v s (depth_of c s.cp)
-  whole_shut e r z =
-      let t = thrown-lent true e in
+module _ (rule : Rule) (c : Curve) (v : View) (s : Subcurve) where
+  pub whole_shut : is_whole_thrown c v.zmax s ≡ true → (r : Reached) → r ≡ with_count 0 Fails → r ≡ reached_by rule c v s (depth_of c s.cp)
+  whole_shut t r z =
       z ∙ rw (← none_open rule c v s (depth_of c s.cp) t, ← none_counted rule c v s (depth_of c s.cp) t)
 
-  pub whole_walked : is_whole_thrown_by (half_width c s.u0 s.u1) v.zmax (cubic_in p) ≡ false → (r q : Reached) → q ≡ with_count 0 Fails
-      → r ≡ walk_in rule c v (depth_of c s.cp) (subcurve_in p s.u0 s.u1) q → r ≡ reached_by rule c v s (depth_of c s.cp)
-  whole_walked e r q z w = w ∙ rw (subcurve_back s p lent, z) (walked rule c v s (depth_of c s.cp) (thrown-lent false e))
+  pub whole_walked : is_whole_thrown c v.zmax s ≡ false → (r q : Reached) → q ≡ with_count 0 Fails → r ≡ walk_in rule c v (depth_of c s.cp) s q → r ≡ reached_by rule c v s (depth_of c s.cp)
+  whole_walked t r q z w = w ∙ rw z (walked rule c v s (depth_of c s.cp) t)

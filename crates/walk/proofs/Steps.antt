@@ -1,23 +1,18 @@
 -- The walk's code, step by step: what each return of `recursive_intersect` and `half_step` gives, and that the count has room. Assumes nothing.
 use mathlib.Core.Bool.{Bool, true, false}
-use mathlib.Core.List.{List}
 use mathlib.Core.Path.{◌≡◌, refl, sym, ap}
 use Prim.Native.Nat.{ℕ, zero, suc, ◌+◌, ◌-◌, ◌^◌, ◌≤◌}
 use native.Mathlib.Nat.{le_refl}
 use native.Mathlib.Omega.{arith}
-use lib.Ieee.{Float}
 use lib.Pow.{pow_mono}
 use Rattle.bisection.specs.Walk.{onward, walk_of}
 use Rattle.bisection.proofs.Nodes.{pow_two}
 use Rattle.bisection.proofs.Walked.{half-size}
-use Rattle.bezier.specs.Cubic.{low_of, high_of}
-use Rattle.bezier.specs.Points.{cubic_in}
 use Rattle.curve.specs.declared.curve.Curve.{Curve}
 use Rattle.frame.specs.declared.frame.View.{View}
 use Rattle.overlap.specs.declared.subcurve.Subcurve.{Subcurve}
-use Rattle.overlap.specs.Subcurve.{middle_of, low_half, high_half, subcurve_in}
-use Rattle.overlap.proofs.Lent.{low-lent, high-lent}
-use Rattle.overlap.specs.Thrown.{half_width, is_thrown_by, is_thrown}
+use Rattle.overlap.specs.Subcurve.{low_half, high_half}
+use Rattle.overlap.specs.Thrown.{is_thrown}
 use Rattle.leaf.specs.declared.leaf.Leaf.{Leaf}
 use Rattle.leaf.specs.Leaf.{leaf_of}
 use Rattle.walk.specs.declared.rule.Rule.{Rule}
@@ -61,19 +56,14 @@ room_high rule c v p d r e q f h k g =
 
 -- ---- the returns
 
-module _ (rule : Rule) (c : Curve) (v : View) (l : List Float) (u0 u1 : Float) (d : ℕ) (w : Float) (b : Bool)
-    (wide : w ≡ half_width c u0 u1) (tested : b ≡ is_thrown_by w v.zmax (cubic_in l)) where
-  is_tested : is_thrown c v.zmax (subcurve_in l u0 u1) ≡ b
-  unfolding is_thrown subcurve_in
-  is_tested = cc
-
-  pub half_out : b ≡ true → (r : Reached) → r ≡ half_in rule c v d (subcurve_in l u0 u1) r
+module _ (rule : Rule) (c : Curve) (v : View) (s : Subcurve) (d : ℕ) (b : Bool) (tested : b ≡ is_thrown c v.zmax s) where
+  pub half_out : b ≡ true → (r : Reached) → r ≡ half_in rule c v d s r
   unfolding half_in
-  half_out t r = rw (is_tested, t)
+  half_out t r = rw (← tested, t)
 
-  pub half_in_lem : b ≡ false → (q r : Reached) → q ≡ walk_in rule c v d (subcurve_in l u0 u1) r → q ≡ half_in rule c v d (subcurve_in l u0 u1) r
+  pub half_in_lem : b ≡ false → (q r : Reached) → q ≡ walk_in rule c v d s r → q ≡ half_in rule c v d s r
   unfolding half_in walk_in
-  half_in_lem t q r e = rw (is_tested, t) e
+  half_in_lem t q r e = rw (← tested, t) e
 
 pub walk_ends : (rule : Rule) (c : Curve) (v : View) (s : Subcurve) (d : ℕ) (r q : Reached) (a : Leaf) → d ≡ 0 → a ≡ leaf_of c v s
     → q.leaf ≡ later rule a r.leaf → q.looked ≡ r.looked + 1 → q ≡ walk_in rule c v d s r
@@ -99,19 +89,19 @@ unfolding walk_in half_in walk_of
 walk_cuts rule c v s zero r f = absurd (f refl)
 walk_cuts rule c v s (suc d) r f = let e : suc d - 1 ≡ d = omega arith in rw e
 
-module _ (rule : Rule) (c : Curve) (v : View) (l : List Float) (u0 u u1 : Float) (low high : List Float) (d : ℕ) (r e q : Reached) (b : Bool)
-    (cut : d ≡ 0 → ⊥) (counted : e ≡ entered r) (middle : u ≡ middle_of u0 u1) (is-low : cubic_in low ≡ low_of (cubic_in l)) (is-high : cubic_in high ≡ high_of (cubic_in l))
-    (first : q ≡ half_in rule c v (d - 1) (subcurve_in low u0 u) e) (over : b ≡ is_over rule q) where
+module _ (rule : Rule) (c : Curve) (v : View) (s low high : Subcurve) (d : ℕ) (r e q : Reached) (b : Bool)
+    (cut : d ≡ 0 → ⊥) (counted : e ≡ entered r) (is-low : low ≡ low_half s) (is-high : high ≡ high_half s)
+    (first : q ≡ half_in rule c v (d - 1) low e) (over : b ≡ is_over rule q) where
   -- the walk of the low half
-  low_walked : half_in rule c v (d - 1) (low_half (subcurve_in l u0 u1)) (entered r) ≡ q
-  low_walked = rw (← low-lent l low u0 u u1 middle is-low, ← counted) (sym first)
+  low_walked : half_in rule c v (d - 1) (low_half s) (entered r) ≡ q
+  low_walked = rw (← is-low, ← counted) (sym first)
 
-  pub walk_stops : b ≡ true → q ≡ walk_in rule c v d (subcurve_in l u0 u1) r
+  pub walk_stops : b ≡ true → q ≡ walk_in rule c v d s r
   walk_stops t =
       let o : is_over rule q ≡ true = cc in
-      rw (walk_cuts rule c v (subcurve_in l u0 u1) d r cut, low_walked, o)
+      rw (walk_cuts rule c v s d r cut, low_walked, o)
 
-  pub walk_goes : b ≡ false → (q' : Reached) → q' ≡ half_in rule c v (d - 1) (subcurve_in high u u1) q → q' ≡ walk_in rule c v d (subcurve_in l u0 u1) r
+  pub walk_goes : b ≡ false → (q' : Reached) → q' ≡ half_in rule c v (d - 1) high q → q' ≡ walk_in rule c v d s r
   walk_goes t q' w =
       let o : is_over rule q ≡ false = cc in
-      rw (walk_cuts rule c v (subcurve_in l u0 u1) d r cut, low_walked, o, ← high-lent l high u0 u u1 middle is-high) w
+      rw (walk_cuts rule c v s d r cut, low_walked, o, ← is-high) w

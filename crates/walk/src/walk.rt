@@ -1,18 +1,16 @@
 // The walk through a curve's subcurves, cut in two again and again.
 ghost use Rattle.std.specs.Prelude.{◌≡◌, false, suc, ◌+◌, ◌≤◌, ◌^◌};
 ghost use Rattle.frame.specs.Frame.{framed_along};
-ghost use Rattle.overlap.specs.Subcurve.{subcurve_in};
 ghost use Rattle.overlap.specs.Depth.{depth_of};
 ghost use Rattle.walk.specs.Steps.{is_over, walk_in, half_in};
 ghost use Rattle.walk.specs.Walk.{reached_by, Walked};
 
 use crate::rule::Rule;
-use bezier::{POINTS, subdivide_bezier};
 use curve::CurveRef;
-use frame::{Aim, View, frame_aimed};
-use leaf::{Leaf, run_leaf};
+use frame::{Aim, frame_aimed};
+use leaf::{Leaf, SeenCurve};
 use limits::Refusal;
-use overlap::{HALF, Subcurve, WHOLE, half_width, is_thrown, max_depth, middle, whole};
+use overlap::{HALF, PaddedSubcurve, Subcurve, WHOLE, max_depth, whole};
 
 // What a walk has come to: the answer of the leaf that decides so far, `Fails` where none passed, and how many subcurves
 // were entered.
@@ -22,80 +20,61 @@ pub struct Reached {
     pub looked: u32,
 }
 
-// What a walk holds fixed.
+// A curve as a ray sees it, and the rule: what a walk holds fixed.
 #[derive(Clone, Copy)]
 struct Walk<'a> {
-    curve: &'a CurveRef<'a>,
-    view: View,
+    seen: SeenCurve<'a>,
     rule: Rule,
 }
 
 impl Walk<'_> {
-    // The walk calls the half step, which calls the walk; depth falls. The points p are those of a subcurve from u0 to u1.
-    // Whether the walk is over is the answer.
+    // The walk calls the half step, which calls the walk; depth falls. Whether the walk is over is the answer: as a `ControlFlow`
+    // with `?` a beam that misses takes 0.8 % more instructions, and deep 1.7 %.
     #[cycle(half_step_recursive_intersect)]
-    fn recursive_intersect(
-        &self,
-        p: &[f32; POINTS],
-        u0: f32,
-        u1: f32,
-        depth: u32,
-        reached: &mut Reached,
-    ) -> bool
+    fn recursive_intersect(&self, s: &PaddedSubcurve, depth: u32, reached: &mut Reached) -> bool
         requires room { reached.old.looked + 2 ^ suc depth ≤ 2 ^ 32 }
         requires goes_on { is_over self.now.rule reached.old ≡ false }
-        ensures walked { reached.new ≡ walk_in self.now.rule self.now.curve.now self.now.view depth (subcurve_in p.now u0 u1) reached.old }
+        ensures walked { reached.new ≡ walk_in self.now.rule self.now.seen.curve.now self.now.seen.view depth s.now reached.old }
         ensures over { result ≡ is_over self.now.rule reached.new }
     {
         reached.looked += 1;
         if depth == 0 {
-            let leaf = run_leaf(self.curve, &self.view, p, u0, u1);
+            let leaf = self.seen.run_leaf(s);
             self.rule.settle(leaf, &mut reached.leaf)
         } else {
-            let u = middle(u0, u1);
-            let (low, high) = subdivide_bezier(p);
-            self.half_step(&low, u0, u, depth - 1, reached)
-                || self.half_step(&high, u, u1, depth - 1, reached)
+            let (low, high) = s.halves();
+            self.half_step(&low, depth - 1, reached) || self.half_step(&high, depth - 1, reached)
         }
     }
 
     #[cycle(half_step_recursive_intersect)]
-    fn half_step(
-        &self,
-        p: &[f32; POINTS],
-        u0: f32,
-        u1: f32,
-        depth: u32,
-        reached: &mut Reached,
-    ) -> bool
+    fn half_step(&self, s: &PaddedSubcurve, depth: u32, reached: &mut Reached) -> bool
         requires room { reached.old.looked + 2 ^ suc depth ≤ 2 ^ 32 }
         requires goes_on { is_over self.now.rule reached.old ≡ false }
-        ensures walked { reached.new ≡ half_in self.now.rule self.now.curve.now self.now.view depth (subcurve_in p.now u0 u1) reached.old }
+        ensures walked { reached.new ≡ half_in self.now.rule self.now.seen.curve.now self.now.seen.view depth s.now reached.old }
         ensures over { result ≡ is_over self.now.rule reached.new }
     {
-        let w = half_width(self.curve, u0, u1);
-        if is_thrown::<HALF>(w, self.view.zmax, p) {
+        if s.is_thrown::<HALF>(self.seen.curve, self.seen.view.zmax) {
             false
         } else {
-            self.recursive_intersect(p, u0, u1, depth, reached)
+            self.recursive_intersect(s, depth, reached)
         }
     }
 }
 
 // The walk from the whole.
-fn walk_whole(curve: &CurveRef<'_>, view: View, s: Subcurve, rule: Rule, reached: &mut Reached)
-    ensures { reached.new ≡ reached_by rule curve.now view s (depth_of curve.now s.cp) }
+fn walk_whole(seen: &SeenCurve<'_>, s: Subcurve, rule: Rule, reached: &mut Reached)
+    ensures { reached.new ≡ reached_by rule seen.now.curve.now seen.now.view s (depth_of seen.now.curve.now s.cp) }
 {
     *reached = Reached {
         leaf: Leaf::Fails,
         looked: 0,
     };
-    let w = half_width(curve, s.u0, s.u1);
-    let points = <[f32; POINTS]>::from(s.cp);
-    if !is_thrown::<WHOLE>(w, view.zmax, &points) {
-        let cuts = max_depth(curve, s.cp);
-        let walk = Walk { curve, view, rule };
-        walk.recursive_intersect(&points, s.u0, s.u1, cuts, reached);
+    let whole = PaddedSubcurve::from(s);
+    if !whole.is_thrown::<WHOLE>(seen.curve, seen.view.zmax) {
+        let cuts = max_depth(seen.curve, s.cp);
+        let walk = Walk { seen: *seen, rule };
+        walk.recursive_intersect(&whole, cuts, reached);
     }
 }
 
@@ -111,12 +90,10 @@ pub fn walk_aimed(
     ensures { Walked rule curve.now (framed_along curve.now a) result reached.new }
 {
     let framed = frame_aimed(curve, a)?;
-    walk_whole(
+    let seen = SeenCurve {
         curve,
-        framed.view,
-        whole(curve, framed.cubic),
-        rule,
-        reached,
-    );
+        view: framed.view,
+    };
+    walk_whole(&seen, whole(curve, framed.cubic), rule, reached);
     Ok(())
 }

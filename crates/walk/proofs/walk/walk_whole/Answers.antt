@@ -1,7 +1,6 @@
 -- The whole is thrown out, and no subcurve is open; or the walk comes to what its leaves say. Assumes nothing.
 use Rattle.std.proofs.Common.{◌≡◌, true, false, refl}
-use Rattle.bezier.specs.Points.{cubic_in}
-use Rattle.overlap.specs.Thrown.{half_width, is_whole_thrown_by}
+use Rattle.overlap.specs.Thrown.{is_whole_thrown}
 use Rattle.walk.proofs.Flat.{none_over, whole_room, whole_shut, whole_walked}
 use Rattle.walk.proofs.walk.walk_whole.Goals as goal
 
@@ -14,11 +13,11 @@ recursive_intersect-requires-clause-goes_on c = none_over _
 pub returns-then-not-is_thrown : goal.returns-then-not-is_thrown
 returns-then-not-is_thrown c =
     let a = c.args in
-    let t : is_whole_thrown_by (half_width a.curve.now a.s.u0 a.s.u1) a.view.zmax (cubic_in c.from-points.result) ≡ false = cc in
-    whole_walked _ _ _ _ _ c.from-points.ensures t _ _ refl (rw c.max_depth-cuts.ensures at c.recursive_intersect.ensures.walked)
+    let t : is_whole_thrown a.seen.now.curve.now a.seen.now.view.zmax a.s ≡ false = cc in
+    whole_walked _ _ _ _ t _ _ refl (rw (c.max_depth-cuts.ensures, c.from-whole.ensures) at c.recursive_intersect.ensures.walked)
 
 pub returns-else-not-is_thrown : goal.returns-else-not-is_thrown
 returns-else-not-is_thrown c =
     let a = c.args in
-    let t : is_whole_thrown_by (half_width a.curve.now a.s.u0 a.s.u1) a.view.zmax (cubic_in c.from-points.result) ≡ true = cc in
-    whole_shut _ _ _ _ _ c.from-points.ensures t _ refl
+    let t : is_whole_thrown a.seen.now.curve.now a.seen.now.view.zmax a.s ≡ true = cc in
+    whole_shut _ _ _ _ t _ refl

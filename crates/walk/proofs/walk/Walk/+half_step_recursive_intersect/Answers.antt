@@ -4,11 +4,11 @@ use Rattle.walk.proofs.Steps.{room_low, room_high, half_out, half_in_lem, walk_e
 use Rattle.walk.proofs.walk.Walk.+half_step_recursive_intersect.Goals as goal
 
 pub half_step-returns-then-is_thrown-clause-walked : goal.half_step-returns-then-is_thrown-clause-walked
-half_step-returns-then-is_thrown-clause-walked t c = half_out _ _ _ _ _ _ _ _ _ c.half_width-w.ensures c.is_thrown.ensures c.if-is_thrown.true _
+half_step-returns-then-is_thrown-clause-walked t c = half_out _ _ _ _ _ _ c.is_thrown.ensures c.if-is_thrown.true _
 
 pub half_step-returns-else-is_thrown-clause-walked : goal.half_step-returns-else-is_thrown-clause-walked
 half_step-returns-else-is_thrown-clause-walked t c =
-    half_in_lem _ _ _ _ _ _ _ _ _ c.half_width-w.ensures c.is_thrown.ensures c.if-is_thrown.false _ _ c.recursive_intersect.ensures.walked
+    half_in_lem _ _ _ _ _ _ c.is_thrown.ensures c.if-is_thrown.false _ _ c.recursive_intersect.ensures.walked
 
 pub recursive_intersect-half_step-requires : goal.recursive_intersect-half_step-requires
 recursive_intersect-half_step-requires t c =
@@ -28,8 +28,8 @@ recursive_intersect-returns-then-depth-eq0-clause-over t c =
 
 pub recursive_intersect-returns-then-half_step-clause-walked : goal.recursive_intersect-returns-then-half_step-clause-walked
 recursive_intersect-returns-then-half_step-clause-walked t c =
-    walk_stops _ _ _ _ _ _ _ _ _ _ _ _ _ _ c.if-depth-eq0.false (one_more _) c.middle-u.ensures c.subdivide_bezier.ensures.low c.subdivide_bezier.ensures.high c.half_step.ensures.walked c.half_step.ensures.over c.if-half_step.true
+    walk_stops _ _ _ _ _ _ _ _ _ _ _ c.if-depth-eq0.false (one_more _) c.halves-low.ensures.low c.halves-low.ensures.high c.half_step.ensures.walked c.half_step.ensures.over c.if-half_step.true
 
 pub recursive_intersect-returns-else-half_step-clause-walked : goal.recursive_intersect-returns-else-half_step-clause-walked
 recursive_intersect-returns-else-half_step-clause-walked t c =
-    walk_goes _ _ _ _ _ _ _ _ _ _ _ _ _ _ c.if-depth-eq0.false (one_more _) c.middle-u.ensures c.subdivide_bezier.ensures.low c.subdivide_bezier.ensures.high c.half_step.ensures.walked c.half_step.ensures.over c.if-half_step.false _ c.half_step-else-half_step.ensures.walked
+    walk_goes _ _ _ _ _ _ _ _ _ _ _ c.if-depth-eq0.false (one_more _) c.halves-low.ensures.low c.halves-low.ensures.high c.half_step.ensures.walked c.half_step.ensures.over c.if-half_step.false _ c.half_step-else-half_step.ensures.walked

@@ -1,8 +1,8 @@
 use Rattle.std.proofs.Common.{◌∙◌, sym, not, eqb}
 use Rattle.std.proofs.lemmas.Bool.{false≢true}
 use Rattle.overlap.proofs.ThrownBy.{thrown_by_y, thrown_by_x, thrown_by_z}
-use Rattle.overlap.proofs.thrown.is_thrown.Goals as goal
-use Rattle.overlap.proofs.thrown.is_thrown.Goals.{then-is_off, else-is_off}
+use Rattle.overlap.proofs.thrown.is_thrown_by.Goals as goal
+use Rattle.overlap.proofs.thrown.is_thrown_by.Goals.{then-is_off, else-is_off}
 
 pub returns-then-is_off-2 : goal.returns-then-is_off-2
 returns-then-is_off-2 g c =
