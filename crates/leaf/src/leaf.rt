@@ -1,6 +1,6 @@
 // The leaf: recursive_intersect at depth 0.
 ghost use Rattle.std.specs.Prelude.{◌≡◌};
-ghost use Rattle.leaf.specs.Leaf.{segment_dir, edge_at, line_at, v_of, crossing_at, crossing_of, crosswise_of, along_of, frame_of, leaf_from, leaf_of};
+ghost use Rattle.leaf.specs.Leaf.{segment_dir, edge_at, line_at, v_of, crossing_at, crossing_of, crosswise_of, along_of, frame_of, leaf_of};
 
 use bezier::{Cubic, Eval, eval_bezier};
 use curve::CurveRef;
@@ -155,30 +155,21 @@ fn frame_at(curve: &CurveRef<'_>, view: &View, u: f32) -> Result<Frame, Refusal>
     along(view.d, at.d, dpdv)
 }
 
-// What a leaf answers. It is no Result: a rule asks of a leaf without a frame, as of one that passes, how far it lies.
+// Where a leaf meets the ray, and the frame there or why there is none.
 #[derive(Clone, Copy, Debug, PartialEq)]
-pub enum Leaf {
-    Passes(Crossing, Frame),
-    Fails,
-    NoFrame(Refusal, f32),
+pub struct Met {
+    pub at: Crossing,
+    pub frame: Result<Frame, Refusal>,
 }
 
-#[tactic(auto, unfolding(crate::specs::Leaf::leaf_from))]
-fn leaf_from(curve: &CurveRef<'_>, view: &View, at: Crossing) -> Leaf
-    ensures { result ≡ leaf_from curve.now view.now at }
-{
-    match frame_at(curve, view, at.u) {
-        Ok(frame) => Leaf::Passes(at, frame),
-        Err(refusal) => Leaf::NoFrame(refusal, at.t),
-    }
-}
+// What a leaf answers: nothing where a test fails.
+pub type Leaf = Option<Met>;
 
 #[tactic(auto, unfolding(crate::specs::Leaf::leaf_of))]
 pub fn run_leaf(curve: &CurveRef<'_>, view: &View, s: &PaddedSubcurve) -> Leaf
     ensures { result ≡ leaf_of curve.now view.now s.now }
 {
-    match cross_leaf(curve, view, s) {
-        Some(at) => leaf_from(curve, view, at),
-        None => Leaf::Fails,
-    }
+    let at = cross_leaf(curve, view, s)?;
+    let frame = frame_at(curve, view, at.u);
+    Some(Met { at, frame })
 }
