@@ -20,7 +20,7 @@ use Rattle.overlap.specs.declared.subcurve.Subcurve.{Subcurve}
 use Rattle.overlap.specs.Subcurve.{low_half, high_half}
 use Rattle.leaf.specs.declared.leaf.Crossing.{Crossing}
 use Rattle.leaf.specs.declared.leaf.Frame.{Frame}
-use Rattle.leaf.specs.Leaf.{Leaf, with_frame, without_frame, leaf_of}
+use Rattle.leaf.specs.Leaf.{Leaf, with_frame, leaf_of}
 use Rattle.leaf.specs.Record.{record_of}
 use Rattle.leaf.proofs.NoFrame.{no_frame}
 use Rattle.walk.specs.Leaves.{subcurve_at, thrown, whole_open, open_at, leaf_at}

@@ -16,7 +16,6 @@ use Rattle.frame.specs.declared.frame.View.{View}
 use Rattle.overlap.specs.declared.subcurve.Subcurve.{Subcurve}
 use Rattle.leaf.specs.declared.leaf.Crossing.{Crossing}
 use Rattle.leaf.specs.declared.leaf.Frame.{Frame}
-use Rattle.leaf.specs.declared.leaf.Met.{Met}
 use Rattle.leaf.specs.Leaf.{Leaf, with_frame, without_frame}
 use Rattle.walk.specs.declared.rule.Rule.TheVariants.{Nearest}
 use Rattle.walk.specs.Leaves.{subcurve_at, open_at, leaf_at}
