@@ -46,11 +46,12 @@ module _ (c : Curve) (v : View) (s : Subcurve) (d : ℕ) where
 
 -- the ray in the object's frame, and whether normals turn
 module _ (c : Curve) (ray : Ray) (flip : Bool) where
-  -- what a leaf replies with n subcurves counted: its record, or why there is none
+  -- what a leaf that passes replies with n subcurves counted: its record, or why there is none
   abbrev pub hit_with : ℕ → Crossing → Result Frame Refusal → Result Intersection Refusal
   hit_with n at (Ok f) = Ok (Hit (record_of c ray flip at f) n)
   hit_with n at (Err k) = Err k
 
+  -- and any leaf
   abbrev pub reply_of : ℕ → Leaf → Result Intersection Refusal
   reply_of n (Some m) = hit_with n m.at m.frame
   reply_of n None = Ok (Miss n)

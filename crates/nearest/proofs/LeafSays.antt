@@ -105,11 +105,12 @@ module _ (c : Curve) (v : View) (s : Subcurve) (d : ℕ) where
       let farther : (j : ℕ) → j < i → is_open_at j ≡ true → counts Nearest (leaf j) ≡ true → nearer i j ≡ true = λ j l o e. h.2 j l (rw (o, e)) in
       (h.0, here.0, here.1, (λ j l o e. ⊎_elim (λ same. rw same (lt_itself _)) (⊎_elim (λ less. lt_asym _ _ (farther j less o e)) (λ more. h.3 j more l (rw (o, e)))) (cases j i)), farther)
 
-  -- what the walk comes to, with which leaf decides
+  -- what the walk comes to where a leaf passes, with which leaf decides
   abbrev pub MetSays : Crossing → Result Frame Refusal → Type 0
   MetSays x (Ok f) = (i : ℕ) × (leaf i ≡ with_frame x f) × Best i
   MetSays x (Err reason) = (i : ℕ) × (i < 2 ^ d) × (is_open_at i ≡ true) × (leaf i ≡ without_frame x reason)
 
+  -- and wherever it comes to
   abbrev pub Says : Leaf → Type 0
   Says (Some m) = MetSays m.at m.frame
   Says None = (j : ℕ) → j < 2 ^ d → is_open_at j ≡ true → counts Nearest (leaf j) ≡ false

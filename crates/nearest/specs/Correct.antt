@@ -67,6 +67,7 @@ module _ (list : List Float) (w2o : Matrix4x4) (r : Ray) where
 
 -- ---- the refusals, all of them in their order
 
+-- the refusal of a frame that is not there, where it applies
 abbrev pub frame_row : Bool → Result Frame Refusal → Table
 frame_row applies (Ok f) = []
 frame_row applies (Err reason) = (applies, reason) ∷ []

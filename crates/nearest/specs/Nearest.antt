@@ -76,11 +76,12 @@ as_number n (Err reason) = Err reason
 
 -- ---- one curve, as number k
 
--- what a leaf gives, for the ray in the object's frame: its record, or why there is none
+-- what a leaf that passes gives, for the ray in the object's frame: its record, or why there is none
 abbrev pub hit_answer : Curve → Bool → ℕ → Ray → Crossing → Result Frame Refusal → Nearest
 hit_answer c flip k ray at (Ok f) = Ok (Some (record_of c ray flip at f, k))
 hit_answer c flip k ray at (Err reason) = Err reason
 
+-- and any leaf
 unfoldable pub leaf_answer : Curve → Bool → ℕ → Ray → Leaf → Nearest
 leaf_answer c flip k ray (Some m) = hit_answer c flip k ray m.at m.frame
 leaf_answer c flip k ray None = Ok None

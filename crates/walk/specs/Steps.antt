@@ -22,7 +22,7 @@ module _ (rule : Rule) where
   takes_place t (Some m) = is_better rule t m.at.t
   takes_place t None = is_counted rule t
 
-  -- so does one that passes: with no frame it does wherever it counts
+  -- a leaf that passes takes it: one with no frame wherever it counts
   unfoldable pub is_taken : Met → Leaf → Bool
   is_taken m before = cond (is_err m.frame) (is_counted rule m.at.t) (takes_place m.at.t before)
 
