@@ -3,7 +3,7 @@ use mathlib.Core.Bool.{Bool}
 use mathlib.Core.Option.{Option, none, some}
 use mathlib.Core.Path.{◌≡◌, refl, ap, ap₂, ◌∙◌}
 use Prim.Native.Nat.{ℕ}
-use Rattle.std.specs.Prelude.{Result, Ok, Err}
+use Rattle.std.specs.Prelude.{None, Result, Ok, Err}
 use Rattle.geometry.specs.declared.ray.Ray.{Ray}
 use Rattle.limits.specs.declared.refusal.Refusal.{Refusal}
 use Rattle.bisection.specs.Below.{or_else, at_or}
@@ -17,7 +17,6 @@ use Rattle.frame.proofs.FramedRay.{framed-ray}
 use Rattle.overlap.specs.declared.subcurve.Subcurve.{Subcurve}
 use Rattle.overlap.specs.Depth.{depth_of}
 use Rattle.overlap.specs.Subcurve.{whole_of, low_half, high_half}
-use Rattle.leaf.specs.declared.leaf.Leaf.TheVariants.{Fails}
 use Rattle.leaf.specs.Leaf.{leaf_of}
 use Rattle.walk.specs.declared.rule.Rule.TheVariants.{Last}
 use Rattle.walk.specs.Leaves.{thrown, whole_open, leaf_at}
@@ -41,12 +40,12 @@ module _ (c : Curve) (v : View) (s : Subcurve) (d : ℕ) where
   unfolding count_by count_of
   count_is = rw end_is
 
-  decided : leaf_by Last c v s d ≡ at_or (leaf_at c v s d) Fails (or_else (stop_of c v s d) (last_of c v s d))
+  decided : leaf_by Last c v s d ≡ at_or (leaf_at c v s d) None (or_else (stop_of c v s d) (last_of c v s d))
   unfolding leaf_by
   decided = rw (end_is, best_is)
 
   -- the reply is made at the end
-  reply_at : (ray : Ray) (flip : Bool) (n : ℕ) (o : Option ℕ) → reply_of c ray flip n (at_or (leaf_at c v s d) Fails o) ≡ at_or (λ i. reply_of c ray flip n (leaf_at c v s d i)) (Ok (reply.Miss n)) o
+  reply_at : (ray : Ray) (flip : Bool) (n : ℕ) (o : Option ℕ) → reply_of c ray flip n (at_or (leaf_at c v s d) None o) ≡ at_or (λ i. reply_of c ray flip n (leaf_at c v s d i)) (Ok (reply.Miss n)) o
   reply_at ray flip n none = refl
   reply_at ray flip n (some i) = refl
 

@@ -6,7 +6,7 @@ use mathlib.Core.Path.{◌≡◌, refl, sym, ap, subst, ◌∙◌}
 use Prim.Native.Nat.{ℕ, ◌+◌, ◌-◌, ◌^◌, ◌≤◌}
 use native.Mathlib.Numerals.{add-one}
 use native.Mathlib.Omega.{arith}
-use Rattle.std.specs.Prelude.{Result, Ok, Err}
+use Rattle.std.specs.Prelude.{Some, None, Result, Ok, Err}
 use Rattle.geometry.specs.declared.ray.Ray.{Ray}
 use Rattle.limits.specs.declared.refusal.Refusal.{Refusal}
 use Rattle.limits.specs.Refused.{number_of}
@@ -20,9 +20,7 @@ use Rattle.overlap.specs.declared.subcurve.Subcurve.{Subcurve}
 use Rattle.overlap.specs.Subcurve.{low_half, high_half}
 use Rattle.leaf.specs.declared.leaf.Crossing.{Crossing}
 use Rattle.leaf.specs.declared.leaf.Frame.{Frame}
-use Rattle.leaf.specs.declared.leaf.Leaf.{Leaf}
-use Rattle.leaf.specs.declared.leaf.Leaf.TheVariants.{Passes, Fails, NoFrame}
-use Rattle.leaf.specs.Leaf.{leaf_of}
+use Rattle.leaf.specs.Leaf.{Leaf, with_frame, leaf_of}
 use Rattle.leaf.specs.Record.{record_of}
 use Rattle.leaf.proofs.NoFrame.{no_frame}
 use Rattle.walk.specs.Leaves.{subcurve_at, thrown, whole_open, open_at, leaf_at}
@@ -32,13 +30,12 @@ use Rattle.intersect.specs.declared.Intersection.{Intersection}
 use Rattle.intersect.specs.declared.Intersection.TheVariants.{Hit, Miss}
 use Rattle.intersect.specs.Answer.{met_count}
 use Rattle.intersect.specs.Correct.{NoneThrown, OpenAnd, NoneIn, FirstIs, LastIs, StopsWith, SomePasses, NonePasses, Decides, open_pieces, IsHit, IsMiss, Decided}
-use Rattle.intersect.specs.Intersect.{reply_of, stop_of, last_of, count_of, replied_at}
+use Rattle.intersect.specs.Intersect.{hit_with, reply_of, stop_of, last_of, count_of, replied_at}
 
 -- a leaf that stops the walk passes
 pub stop_passes : (l : Leaf) → stops l ≡ true → passes l ≡ true
-stop_passes (Passes at f) e = refl
-stop_passes Fails e = e
-stop_passes (NoFrame k t) e = refl
+stop_passes (Some m) e = refl
+stop_passes None e = e
 
 -- an open leaf that fails the test
 pub neither : (a b : Bool) → a && b ≡ false → a ≡ true → b ≡ false
@@ -89,19 +86,25 @@ module _ (c : Curve) (v : View) (s : Subcurve) (d : ℕ) where
     -- A miss has the count, and no open leaf passes. A refusal has the reason of the stop, which has no frame.
     abbrev Says : Result Intersection Refusal → Type 0
     Says (Ok (Hit r n)) =
-        (n ≡ count_of c v s d) × ((i : ℕ) × (at : Crossing) × (f : Frame) × Decides c v s d i × OpenAnd c v s d passes i × (leaf_at c v s d i ≡ Passes at f) × (r ≡ record_of c ray flip at f))
+        (n ≡ count_of c v s d) × ((i : ℕ) × (at : Crossing) × (f : Frame) × Decides c v s d i × OpenAnd c v s d passes i × (leaf_at c v s d i ≡ with_frame at f) × (r ≡ record_of c ray flip at f))
     Says (Ok (Miss n)) = (n ≡ count_of c v s d) × NonePasses c v s d
     Says (Err k) = StopsWith c v s d k
 
     at_stop : (i : ℕ) → stop_of c v s d ≡ some i → OpenAnd c v s d stops i → (l : Leaf) → leaf_at c v s d i ≡ l → Says (reply_of c ray flip (count_of c v s d) l)
-    at_stop i e h (Passes at f) g = (refl, (i, at, f, inl e, (h.0, h.1, stop_passes (leaf_at c v s d i) h.2), g, refl))
-    at_stop i e h Fails g = absurd (false≢true (ap stops (sym g) ∙ h.2))
-    at_stop i e h (NoFrame k t) g = (i, t, e, g)
+    at_stop i e h (Some m) g = go m.frame g
+      where
+        go : (f : Result Frame Refusal) → leaf_at c v s d i ≡ Some (record { at = m.at; frame = f }) → Says (hit_with c ray flip (count_of c v s d) m.at f)
+        go (Ok f) g = (refl, (i, m.at, f, inl e, (h.0, h.1, stop_passes (leaf_at c v s d i) h.2), g, refl))
+        go (Err k) g = (i, m.at, e, g)
+    at_stop i e h None g = absurd (false≢true (ap stops (sym g) ∙ h.2))
 
     at_last : (i : ℕ) → stop_of c v s d ≡ none → last_of c v s d ≡ some i → NoneIn c v s d stops 0 (2 ^ d) → OpenAnd c v s d passes i → (l : Leaf) → leaf_at c v s d i ≡ l → Says (reply_of c ray flip (count_of c v s d) l)
-    at_last i e e' n h (Passes at f) g = (refl, (i, at, f, inr (e, e'), h, g, refl))
-    at_last i e e' n h Fails g = absurd (false≢true (ap passes (sym g) ∙ h.2))
-    at_last i e e' n h (NoFrame k t) g = absurd (true≢false (ap stops (sym g) ∙ n i (omega arith) h.0 h.1))
+    at_last i e e' n h (Some m) g = go m.frame g
+      where
+        go : (f : Result Frame Refusal) → leaf_at c v s d i ≡ Some (record { at = m.at; frame = f }) → Says (hit_with c ray flip (count_of c v s d) m.at f)
+        go (Ok f) g = (refl, (i, m.at, f, inr (e, e'), h, g, refl))
+        go (Err k) g = absurd (true≢false (ap stops (sym g) ∙ n i (omega arith) h.0 h.1))
+    at_last i e e' n h None g = absurd (false≢true (ap passes (sym g) ∙ h.2))
 
     says : Says (replied_at c ray flip v s d)
     unfolding replied_at
@@ -123,7 +126,7 @@ module _ (c : Curve) (v : View) (s : Subcurve) (d : ℕ) where
 
     pub refusal-number : (k : Refusal) → replied_at c ray flip v s d ≡ Err k → (14 ≤ number_of k) × (number_of k ≤ 16)
     unfolding leaf_at
-    refusal-number k e = let h = refused k e in no_frame c v (subcurve_at s d h.0) k h.1 h.3
+    refusal-number k e = let h = refused k e in no_frame c v (subcurve_at s d h.0) h.1 k h.3
 
     hits : ((k : Refusal) → StopsWith c v s d k → ⊥) → SomePasses c v s d → IsHit (replied_at c ray flip v s d)
     hits f p = go (replied_at c ray flip v s d) says
@@ -148,7 +151,7 @@ module _ (c : Curve) (v : View) (s : Subcurve) (d : ℕ) where
     missed e = (subst Says e.1 says).1
 
     recorded : (at : SurfaceInteraction) (n : ℕ) → replied_at c ray flip v s d ≡ Ok (Hit at n)
-        → (i : ℕ) × (x : Crossing) × (f : Frame) × Decides c v s d i × (leaf_at c v s d i ≡ Passes x f) × (at ≡ record_of c ray flip x f)
+        → (i : ℕ) × (x : Crossing) × (f : Frame) × Decides c v s d i × (leaf_at c v s d i ≡ with_frame x f) × (at ≡ record_of c ray flip x f)
     recorded at n e = let h = (subst Says e says).1 in (h.0, h.1, h.2, h.3, h.5, h.6)
 
     counted : (n : ℕ) → met_count (replied_at c ray flip v s d) ≡ some n → n ≡ count_of c v s d

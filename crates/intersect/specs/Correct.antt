@@ -20,8 +20,7 @@ use Rattle.overlap.specs.Depth.{depth_of}
 use Rattle.overlap.specs.Subcurve.{whole_of}
 use Rattle.leaf.specs.declared.leaf.Crossing.{Crossing}
 use Rattle.leaf.specs.declared.leaf.Frame.{Frame}
-use Rattle.leaf.specs.declared.leaf.Leaf.{Leaf}
-use Rattle.leaf.specs.declared.leaf.Leaf.TheVariants as leaf
+use Rattle.leaf.specs.Leaf.{Leaf, with_frame, without_frame}
 use Rattle.leaf.specs.Record.{flips_of, record_of}
 use Rattle.walk.specs.Leaves.{subcurve_at, thrown, whole_open, open_at, leaf_at}
 use Rattle.walk.specs.Rule.{passes, stops}
@@ -58,7 +57,7 @@ module _ (c : Curve) (v : View) (s : Subcurve) (d : ℕ) where
 
   -- there is a stop, and it has no frame, for the reason k
   abbrev pub StopsWith : Refusal → Type 0
-  StopsWith k = (i : ℕ) × (t : Float) × (stop_of c v s d ≡ some i) × (leaf_at c v s d i ≡ leaf.NoFrame k t)
+  StopsWith k = (i : ℕ) × (at : Crossing) × (stop_of c v s d ≡ some i) × (leaf_at c v s d i ≡ without_frame at k)
 
   abbrev pub SomePasses : Type 0
   SomePasses = (i : ℕ) × OpenAnd passes i
@@ -100,7 +99,7 @@ pub record Decided (c : Curve) (ray : Ray) (flip : Bool) (v : View) (whole : Sub
   pub misses : ((k : Refusal) → StopsWith c v whole d k → ⊥) → IsMiss answer ↔ NonePasses c v whole d
   -- "The hit's record equals .. the record of the stop or, with no stop, of the last open sliver that passes."
   pub recorded : (at : SurfaceInteraction) (n : ℕ) → answer ≡ Ok (Hit at n)
-      → (i : ℕ) × (x : Crossing) × (f : Frame) × Decides c v whole d i × (leaf_at c v whole d i ≡ leaf.Passes x f) × (at ≡ record_of c ray flip x f)
+      → (i : ℕ) × (x : Crossing) × (f : Frame) × Decides c v whole d i × (leaf_at c v whole d i ≡ with_frame x f) × (at ≡ record_of c ray flip x f)
   -- "The count in a hit or a miss equals the number of open pieces of the walk, of all sizes, that start no later than the stop, all of them if there is none."
   pub counted : (n : ℕ) → met_count answer ≡ some n → n ≡ open_pieces c v whole d
   -- "It is at most 2^(d+1) - 1."

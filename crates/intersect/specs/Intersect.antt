@@ -1,7 +1,7 @@
 -- The reply of `intersect`, by the subcurves and not by the walk. Definitions only.
 -- Which leaves are open and what each answers stands in `specs/Leaves.antt` of `walk`, which pass and which stop the walk in `specs/Rule.antt` there. It
 -- follows from the curve, the view and the whole alone: the ray's time and the flag come in with the record.
-use Rattle.std.specs.Prelude.{Bool, not, List, ◌∷◌, ℕ, Result, Ok, Err, Float}
+use Rattle.std.specs.Prelude.{Bool, not, List, ◌∷◌, ℕ, Some, None, Result, Ok, Err, Float}
 use Rattle.std.proofs.Math.Option.{Option}
 use Rattle.geometry.specs.declared.ray.Ray.{Ray}
 use Rattle.matrix.specs.declared.Matrix4x4.{Matrix4x4}
@@ -20,9 +20,9 @@ use Rattle.frame.specs.Frame.{framed_curve}
 use Rattle.overlap.specs.declared.subcurve.Subcurve.{Subcurve}
 use Rattle.overlap.specs.Depth.{depth_of}
 use Rattle.overlap.specs.Subcurve.{whole_of, low_half, high_half}
-use Rattle.leaf.specs.declared.leaf.Leaf.{Leaf}
-use Rattle.leaf.specs.declared.leaf.Leaf.TheVariants.{Passes, Fails, NoFrame}
-use Rattle.leaf.specs.Leaf.{leaf_of}
+use Rattle.leaf.specs.declared.leaf.Crossing.{Crossing}
+use Rattle.leaf.specs.declared.leaf.Frame.{Frame}
+use Rattle.leaf.specs.Leaf.{Leaf, leaf_of}
 use Rattle.leaf.specs.Record.{flips_of, record_of}
 use Rattle.walk.specs.Leaves.{thrown, whole_open, leaf_at}
 use Rattle.walk.specs.Rule.{passes, stops}
@@ -46,11 +46,15 @@ module _ (c : Curve) (v : View) (s : Subcurve) (d : ℕ) where
 
 -- the ray in the object's frame, and whether normals turn
 module _ (c : Curve) (ray : Ray) (flip : Bool) where
-  -- what a leaf replies with n subcurves counted: its record, or why there is none
+  -- what a leaf that passes replies with n subcurves counted: its record, or why there is none
+  abbrev pub hit_with : ℕ → Crossing → Result Frame Refusal → Result Intersection Refusal
+  hit_with n at (Ok f) = Ok (Hit (record_of c ray flip at f) n)
+  hit_with n at (Err k) = Err k
+
+  -- and any leaf
   abbrev pub reply_of : ℕ → Leaf → Result Intersection Refusal
-  reply_of n (Passes at f) = Ok (Hit (record_of c ray flip at f) n)
-  reply_of n Fails = Ok (Miss n)
-  reply_of n (NoFrame k t) = Err k
+  reply_of n (Some m) = hit_with n m.at m.frame
+  reply_of n None = Ok (Miss n)
 
   -- The stop decides, and where there is none the last open leaf that passes. Where there is none of either it is a miss.
   unfoldable pub replied_at : View → Subcurve → ℕ → Result Intersection Refusal

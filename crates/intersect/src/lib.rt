@@ -10,7 +10,7 @@ use curve::CurveRef;
 use frame::{Aim, aim_ray};
 use geometry::Ray;
 pub use interaction::SurfaceInteraction;
-use leaf::{Leaf, flips, record_at};
+use leaf::{flips, record_at};
 use limits::{Refusal, check_ray};
 use matrix::Matrix4x4;
 use walk::{Reached, Rule, walk_aimed};
@@ -27,18 +27,15 @@ fn intersect_along(curve: &CurveRef<'_>, flip: bool, a: Aim) -> Result<Intersect
     ensures { result ≡ intersect_framed curve.now flip (framed_along curve.now a) }
 {
     let mut reached = Reached {
-        leaf: Leaf::Fails,
+        leaf: None,
         looked: 0,
     };
     walk_aimed(curve, a, Rule::Last, &mut reached)?;
-    match reached.leaf {
-        Leaf::Passes(at, frame) => {
-            let record = record_at(curve, a.ray, flip, at, frame);
-            Ok(Intersection::Hit(record, reached.looked))
-        }
-        Leaf::Fails => Ok(Intersection::Miss(reached.looked)),
-        Leaf::NoFrame(refusal, _) => Err(refusal),
-    }
+    let Some(met) = reached.leaf else {
+        return Ok(Intersection::Miss(reached.looked));
+    };
+    let record = record_at(curve, a.ray, flip, met.at, met.frame?);
+    Ok(Intersection::Hit(record, reached.looked))
 }
 
 // Where a ray meets a curve. What is asked of the matrices is done before the curve is looked at, so that they need not

@@ -17,9 +17,7 @@ use Rattle.frame.specs.declared.frame.View.{View}
 use Rattle.overlap.specs.declared.subcurve.Subcurve.{Subcurve}
 use Rattle.leaf.specs.declared.leaf.Crossing.{Crossing}
 use Rattle.leaf.specs.declared.leaf.Frame.{Frame}
-use Rattle.leaf.specs.declared.leaf.Leaf.{Leaf}
-use Rattle.leaf.specs.declared.leaf.Leaf.TheVariants.{Passes, Fails, NoFrame}
-use Rattle.leaf.specs.Leaf.{is_zero, crosswise_of, outward_of, with_wo, along_of, with_normal, with_dpdv, frame_of, with_framing, leaf_from, with_crossing, crossing_of, leaf_of}
+use Rattle.leaf.specs.Leaf.{is_zero, crosswise_of, outward_of, with_wo, along_of, with_normal, with_dpdv, frame_of, Leaf, without_frame, with_crossing, crossing_of, leaf_of}
 
 -- 14, 15 or 16
 abbrev OfFrame : Refusal → Type 0
@@ -55,22 +53,17 @@ frame-numbered c v u = zero? (is_zero dpdu)
 
 -- so is a leaf
 abbrev LeafNumbered : Leaf → Type 0
-LeafNumbered (Passes at f) = Unit {0}
-LeafNumbered Fails = Unit {0}
-LeafNumbered (NoFrame k t) = OfFrame k
+LeafNumbered (Some m) = FrameNumbered m.frame
+LeafNumbered None = Unit {0}
 
 leaf-numbered : (c : Curve) (v : View) (s : Subcurve) → LeafNumbered (leaf_of c v s)
-unfolding leaf_of leaf_from
+unfolding leaf_of
 leaf-numbered c v s = crossed (crossing_of c v s)
   where
-    framed : (at : Crossing) (f : Result Frame Refusal) → FrameNumbered f → LeafNumbered (with_framing at f)
-    framed at (Ok f) n = tt
-    framed at (Err k) n = n
-
     crossed : (x : Option Crossing) → LeafNumbered (with_crossing c v x)
-    crossed (Some at) = framed at (frame_of c v at.u) (frame-numbered c v at.u)
+    crossed (Some at) = frame-numbered c v at.u
     crossed None = tt
 
 -- a leaf without a frame has the number 14, 15 or 16
-pub no_frame : (c : Curve) (v : View) (s : Subcurve) (k : Refusal) (t : Float) → leaf_of c v s ≡ NoFrame k t → (14 ≤ number_of k) × (number_of k ≤ 16)
-no_frame c v s k t e = subst LeafNumbered e (leaf-numbered c v s)
+pub no_frame : (c : Curve) (v : View) (s : Subcurve) (at : Crossing) (k : Refusal) → leaf_of c v s ≡ without_frame at k → (14 ≤ number_of k) × (number_of k ≤ 16)
+no_frame c v s at k e = subst LeafNumbered e (leaf-numbered c v s)

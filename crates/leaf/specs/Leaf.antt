@@ -22,8 +22,7 @@ use Rattle.frame.specs.declared.frame.View.{View}
 use Rattle.overlap.specs.declared.subcurve.Subcurve.{Subcurve}
 use Rattle.leaf.specs.declared.leaf.Crossing.{Crossing}
 use Rattle.leaf.specs.declared.leaf.Frame.{Frame}
-use Rattle.leaf.specs.declared.leaf.Leaf.{Leaf}
-use Rattle.leaf.specs.declared.leaf.Leaf.TheVariants.{Passes, Fails, NoFrame}
+use Rattle.leaf.specs.declared.leaf.Met.{Met}
 
 -- ---- the tests
 
@@ -116,16 +115,21 @@ frame_of c v u =
 
 -- ---- the leaf
 
-abbrev pub with_framing : Crossing → Result Frame Refusal → Leaf
-with_framing at (Ok f) = Passes at f
-with_framing at (Err k) = NoFrame k at.t
+-- what a leaf answers: where it meets the ray and the frame there, and nothing where a test fails
+abbrev pub Leaf : Type 0
+Leaf = Option Met
 
-unfoldable pub leaf_from : Curve → View → Crossing → Leaf
-leaf_from c v at = with_framing at (frame_of c v at.u)
+-- it passes, and has this frame
+abbrev pub with_frame : Crossing → Frame → Leaf
+with_frame at f = Some (record { at = at; frame = Ok f })
+
+-- it passes, and for this reason has no frame
+abbrev pub without_frame : Crossing → Refusal → Leaf
+without_frame at k = Some (record { at = at; frame = Err k })
 
 abbrev pub with_crossing : Curve → View → Option Crossing → Leaf
-with_crossing c v (Some at) = leaf_from c v at
-with_crossing c v None = Fails
+with_crossing c v (Some at) = Some (record { at = at; frame = frame_of c v at.u })
+with_crossing c v None = None
 
 -- A leaf's answer, from the subcurve and what the walk holds fixed alone.
 unfoldable pub leaf_of : Curve → View → Subcurve → Leaf

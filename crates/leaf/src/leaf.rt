@@ -1,6 +1,6 @@
 // The leaf: recursive_intersect at depth 0.
 ghost use Rattle.std.specs.Prelude.{◌≡◌};
-ghost use Rattle.leaf.specs.Leaf.{segment_dir, edge_at, line_at, v_of, crossing_at, crossing_of, crosswise_of, along_of, frame_of, leaf_from, leaf_of};
+ghost use Rattle.leaf.specs.Leaf.{segment_dir, edge_at, line_at, v_of, crossing_at, crossing_of, crosswise_of, along_of, frame_of, leaf_of};
 
 use bezier::{Cubic, Eval, eval_bezier};
 use curve::CurveRef;
@@ -103,13 +103,15 @@ fn along(d: Vector3f, dpdu: Vector3f, dpdv: Vector3f) -> Result<Frame, Refusal>
     Ok(Frame { dpdu, dpdv, n, wo })
 }
 
-// What a leaf answers. It is no Result: a rule asks of a leaf without a frame, as of one that passes, how far it lies.
+// Where a leaf meets the ray, and the frame there or why there is none.
 #[derive(Clone, Copy, Debug, PartialEq)]
-pub enum Leaf {
-    Passes(Crossing, Frame),
-    Fails,
-    NoFrame(Refusal, f32),
+pub struct Met {
+    pub at: Crossing,
+    pub frame: Result<Frame, Refusal>,
 }
+
+// What a leaf answers: nothing where a test fails.
+pub type Leaf = Option<Met>;
 
 // A curve as a ray sees it: what a walk holds fixed.
 #[derive(Clone, Copy)]
@@ -171,24 +173,13 @@ impl SeenCurve<'_> {
         along(self.view.d, at.d, dpdv)
     }
 
-    #[tactic(auto, unfolding(crate::specs::Leaf::leaf_from))]
-    fn leaf_from(&self, at: Crossing) -> Leaf
-        ensures { result ≡ leaf_from self.now.curve.now self.now.view at }
-    {
-        match self.frame_at(at.u) {
-            Ok(frame) => Leaf::Passes(at, frame),
-            Err(refusal) => Leaf::NoFrame(refusal, at.t),
-        }
-    }
-
     // The answer of a subcurve that is cut no further.
     #[tactic(auto, unfolding(crate::specs::Leaf::leaf_of))]
     pub fn run_leaf(&self, s: &PaddedSubcurve) -> Leaf
         ensures { result ≡ leaf_of self.now.curve.now self.now.view s.now }
     {
-        match self.cross_leaf(s) {
-            Some(at) => self.leaf_from(at),
-            None => Leaf::Fails,
-        }
+        let at = self.cross_leaf(s)?;
+        let frame = self.frame_at(at.u);
+        Some(Met { at, frame })
     }
 }

@@ -6,4 +6,4 @@ mod hit;
 mod leaf;
 
 pub use hit::{flips, record_at};
-pub use leaf::{Crossing, Frame, Leaf, SeenCurve};
+pub use leaf::{Crossing, Frame, Leaf, Met, SeenCurve};

@@ -1,5 +1,5 @@
 -- The refusal of an answer is the first of all refusals, in their order, that applies. Assumes nothing.
-use mathlib.Core.Bool.{Bool, true, false, cond, ◌&&◌, and-false, and-eq-true_iff, false≢true, true≢false}
+use mathlib.Core.Bool.{Bool, true, false, not, cond, ◌&&◌, and-false, and-eq-true_iff, false≢true, true≢false}
 use mathlib.Core.List.{List, [], ◌∷◌, ◌++◌}
 use mathlib.Core.Logic.{◌⊎◌, inl, inr}
 use mathlib.Core.Option as math
@@ -8,9 +8,9 @@ use Prim.Native.Nat.{ℕ, zero, suc, ◌/◌, ◌^◌, ◌≤◌}
 use native.Mathlib.Omega.{arith}
 use borrow.Author.Tests.{leb-true}
 use lib.Dec.{leb}
-use lib.Ieee.{Float, lt}
+use lib.Ieee.{Float, is_nan, lt}
 use lib.ListN.{length}
-use Rattle.std.specs.Prelude.{Option, Some, None, Result, Ok, Err}
+use Rattle.std.specs.Prelude.{Option, Some, None, is_err, Result, Ok, Err}
 use Rattle.std.specs.Option.{option_or}
 use Rattle.geometry.specs.declared.ray.Ray.{Ray}
 use Rattle.matrix.specs.declared.Matrix4x4.{Matrix4x4}
@@ -32,9 +32,9 @@ use Rattle.frame.proofs.Unframed.{unframed}
 use Rattle.overlap.specs.declared.subcurve.Subcurve.{Subcurve}
 use Rattle.overlap.specs.Depth.{depth_of}
 use Rattle.overlap.specs.Subcurve.{whole_of}
-use Rattle.leaf.specs.declared.leaf.Leaf.{Leaf}
-use Rattle.leaf.specs.declared.leaf.Leaf.TheVariants.{Passes, Fails, NoFrame}
-use Rattle.leaf.specs.Leaf.{leaf_of}
+use Rattle.leaf.specs.declared.leaf.Crossing.{Crossing}
+use Rattle.leaf.specs.declared.leaf.Frame.{Frame}
+use Rattle.leaf.specs.Leaf.{Leaf, leaf_of}
 use Rattle.leaf.specs.Record.{flips_of}
 use Rattle.leaf.proofs.NoFrame.{no_frame}
 use Rattle.walk.specs.declared.rule.Rule.TheVariants as rule
@@ -42,8 +42,8 @@ use Rattle.walk.specs.Leaves.{subcurve_at, open_at, leaf_at}
 use Rattle.walk.specs.Rule.{counts, ends}
 use Rattle.walk.specs.Walk.{end_by, best_by, leaf_by}
 use Rattle.intersect.specs.Correct.{framing_refusals}
-use Rattle.nearest.specs.Correct.{leaf_row, leaf_refusals, alone_refusals, refusals}
-use Rattle.nearest.specs.Nearest.{Nearest, is_hit, is_refused, distance_in, among, joined, leaf_answer, framed_answer, answer_of, answer_at, nearest_aimed, nearest_refusals, nearest_of}
+use Rattle.nearest.specs.Correct.{frame_row, leaf_row, leaf_refusals, alone_refusals, refusals}
+use Rattle.nearest.specs.Nearest.{Nearest, is_hit, is_refused, distance_in, among, joined, hit_answer, leaf_answer, framed_answer, answer_of, answer_at, nearest_aimed, nearest_refusals, nearest_of}
 use Rattle.nearest.proofs.Among.{one_more, none_yet}
 use Rattle.nearest.proofs.LeafSays.{neither, end_first, best_below_lem}
 
@@ -98,16 +98,22 @@ refusal-told (Some reason) x = refl
 -- ---- one curve
 
 -- a leaf's refusal; one that has a frame or fails has none, and no test holds of it
+abbrev reason_in : Result Frame Refusal → Refusal
+reason_in (Ok f) = refusal.ZeroNormal
+reason_in (Err reason) = reason
+
 abbrev reason_of : Leaf → Refusal
-reason_of (Passes x f) = refusal.ZeroNormal
-reason_of Fails = refusal.ZeroNormal
-reason_of (NoFrame reason t) = reason
+reason_of (Some m) = reason_in m.frame
+reason_of None = refusal.ZeroNormal
 
 row_first : (is_open : Bool) (l : Leaf) → first_of (leaf_row is_open l) ≡ cond (is_open && ends rule.Nearest l) (Some (reason_of l)) None
 unfolding first_of ends
-row_first is_open (Passes x f) = rw and-false
-row_first is_open Fails = rw and-false
-row_first is_open (NoFrame reason t) = refl
+row_first is_open (Some m) = go m.frame
+  where
+    go : (f : Result Frame Refusal) → first_of (frame_row (is_open && (is_err f && not (is_nan m.at.t))) f) ≡ cond (is_open && (is_err f && not (is_nan m.at.t))) (Some (reason_in f)) None
+    go (Ok f) = rw and-false
+    go (Err reason) = refl
+row_first is_open None = rw and-false
 
 module _ (c : Curve) (v : View) (s : Subcurve) (d : ℕ) (flip : Bool) (k : ℕ) (ray : Ray) where
   leaf-refusal : refusal_in (leaf_answer c flip k ray (leaf_by rule.Nearest c v s d))
@@ -122,17 +128,23 @@ module _ (c : Curve) (v : View) (s : Subcurve) (d : ℕ) (flip : Bool) (k : ℕ)
       open_counts i = open_at c v s d i && counts rule.Nearest (leaf_at c v s d i)
 
       ending : (l : Leaf) → ends rule.Nearest l ≡ true → refusal_in (leaf_answer c flip k ray l) ≡ Some (reason_of l)
-      ending (Passes x f) e = absurd (false≢true e)
-      ending Fails e = absurd (false≢true e)
-      ending (NoFrame reason t) e = refl
+      ending (Some m) e = go' m.frame e
+        where
+          go' : (f : Result Frame Refusal) → is_err f && not (is_nan m.at.t) ≡ true → refusal_in (hit_answer c flip k ray m.at f) ≡ Some (reason_in f)
+          go' (Ok f) e = absurd (false≢true e)
+          go' (Err reason) e = refl
+      ending None e = absurd (false≢true e)
 
       framed : (l : Leaf) → counts rule.Nearest l ≡ true → ends rule.Nearest l ≡ false → refusal_in (leaf_answer c flip k ray l) ≡ None
-      framed (Passes x f) e n = refl
-      framed Fails e n = refl
-      framed (NoFrame reason t) e n = absurd (true≢false (sym e ∙ n))
+      framed (Some m) e n = go' m.frame n
+        where
+          go' : (f : Result Frame Refusal) → is_err f && not (is_nan m.at.t) ≡ false → refusal_in (hit_answer c flip k ray m.at f) ≡ None
+          go' (Ok f) n = refl
+          go' (Err reason) n = absurd (true≢false (sym e ∙ n))
+      framed None e n = refl
 
       go : (o : math.Option ℕ) → IsFirst (2 ^ d) open_ends o → (p : math.Option ℕ) → IsIn (2 ^ d) open_counts p
-          → refusal_in (leaf_answer c flip k ray (at_or (leaf_at c v s d) Fails (or_else o p))) ≡ mapped (λ i. reason_of (leaf_at c v s d i)) o
+          → refusal_in (leaf_answer c flip k ray (at_or (leaf_at c v s d) None (or_else o p))) ≡ mapped (λ i. reason_of (leaf_at c v s d i)) o
       go (math.some i) h p h' = ending (leaf_at c v s d i) ((and-eq-true_iff (open_at c v s d i) (ends rule.Nearest (leaf_at c v s d i))).0 h.1).1
       go math.none h math.none h' = refl
       go math.none h (math.some i) h' =
@@ -193,15 +205,18 @@ told-numbered : (o : Option Refusal) (x : Nearest) → ReasonNumbered o → Numb
 told-numbered None x h n = n
 told-numbered (Some reason) x h n = h
 
-leaf-numbered : (c : Curve) (v : View) (s : Subcurve) (d : ℕ) (flip : Bool) (k : ℕ) (ray : Ray) (o : math.Option ℕ) → Numbered (leaf_answer c flip k ray (at_or (leaf_at c v s d) Fails o))
+leaf-numbered : (c : Curve) (v : View) (s : Subcurve) (d : ℕ) (flip : Bool) (k : ℕ) (ray : Ray) (o : math.Option ℕ) → Numbered (leaf_answer c flip k ray (at_or (leaf_at c v s d) None o))
 unfolding leaf_answer leaf_at
 leaf-numbered c v s d flip k ray math.none = tt
 leaf-numbered c v s d flip k ray (math.some i) = go (leaf_of c v (subcurve_at s d i)) refl
   where
+    met : (x : Crossing) (f : Result Frame Refusal) → leaf_of c v (subcurve_at s d i) ≡ Some (record { at = x; frame = f }) → Numbered (hit_answer c flip k ray x f)
+    met x (Ok f) e = tt
+    met x (Err reason) e = omega (arith, (no_frame c v (subcurve_at s d i) x reason e).0)
+
     go : (l : Leaf) → leaf_of c v (subcurve_at s d i) ≡ l → Numbered (leaf_answer c flip k ray l)
-    go (Passes x f) e = tt
-    go Fails e = tt
-    go (NoFrame reason t) e = omega (arith, (no_frame c v (subcurve_at s d i) reason t e).0)
+    go (Some m) e = met m.at m.frame e
+    go None e = tt
 
 alone_numbered : (w2o : Matrix4x4) (r : Ray) (flip : Bool) (k : ℕ) (l : List Float) → Numbered (answer_of flip (aimed_of w2o r) k l)
 unfolding answer_of framed_answer leaf_by lent_refusals framed_curve

@@ -5,6 +5,8 @@ use mathlib.Core.Option.{Option, none, some}
 use mathlib.Core.Path.{◌≡◌, refl, sym, ap, ◌∙◌}
 use Prim.Native.Nat.{ℕ, ◌^◌, ◌<◌}
 use lib.Ieee.{Float, is_nan, lt}
+use Rattle.std.specs.Prelude.{Some, None, Result, Ok, Err}
+use Rattle.limits.specs.declared.refusal.Refusal.{Refusal}
 use Rattle.float.proofs.Order.{lt_trans, not_lt_trans, lt_asym, lt_itself}
 use Rattle.bisection.specs.Below.{or_else, at_or, first_below, best_below}
 use Rattle.bisection.specs.Nodes.{passes_at, first_open, best_open}
@@ -14,8 +16,7 @@ use Rattle.frame.specs.declared.frame.View.{View}
 use Rattle.overlap.specs.declared.subcurve.Subcurve.{Subcurve}
 use Rattle.leaf.specs.declared.leaf.Crossing.{Crossing}
 use Rattle.leaf.specs.declared.leaf.Frame.{Frame}
-use Rattle.leaf.specs.declared.leaf.Leaf.{Leaf}
-use Rattle.leaf.specs.declared.leaf.Leaf.TheVariants.{Passes, Fails, NoFrame}
+use Rattle.leaf.specs.Leaf.{Leaf, with_frame, without_frame}
 use Rattle.walk.specs.declared.rule.Rule.TheVariants.{Nearest}
 use Rattle.walk.specs.Leaves.{subcurve_at, open_at, leaf_at}
 use Rattle.walk.specs.Rule.{passes, has_no_frame, distance_of, counts, ends, beats, is_better}
@@ -40,19 +41,21 @@ counts-number l e = go (is_nan (distance_of l)) ((and-eq-true_iff (passes l) (no
 -- one that passes and does not count lies at a NaN
 pub uncounted_not_below : (l : Leaf) (x : Float) → passes l ≡ true → counts Nearest l ≡ false → lt (distance_of l) x ≡ false
 unfolding counts
-uncounted_not_below (Passes at f) x p e = nan-below at.t x e
-uncounted_not_below Fails x p e = absurd (false≢true p)
-uncounted_not_below (NoFrame k t) x p e = nan-below t x e
+uncounted_not_below (Some m) x p e = nan-below m.at.t x e
+uncounted_not_below None x p e = absurd (false≢true p)
 
 -- one that counts and does not end the walk has a frame
 abbrev pub HasFrame : Leaf → Type 0
-HasFrame l = (x : Crossing) × (f : Frame) × (l ≡ Passes x f)
+HasFrame l = (x : Crossing) × (f : Frame) × (l ≡ with_frame x f)
 
 has-frame : (l : Leaf) → counts Nearest l ≡ true → ends Nearest l ≡ false → HasFrame l
 unfolding counts ends
-has-frame (Passes x f) e n = (x, f, refl)
-has-frame Fails e n = absurd (false≢true e)
-has-frame (NoFrame k t) e n = absurd (true≢false (sym e ∙ n))
+has-frame (Some m) e n = go m.frame n
+  where
+    go : (f : Result Frame Refusal) → ends Nearest (Some (record { at = m.at; frame = f })) ≡ false → HasFrame (Some (record { at = m.at; frame = f }))
+    go (Ok f) n = (m.at, f, refl)
+    go (Err k) n = absurd (true≢false (sym e ∙ n))
+has-frame None e n = absurd (false≢true e)
 
 -- ---- the leaves of a curve that is cut d times
 
@@ -102,27 +105,37 @@ module _ (c : Curve) (v : View) (s : Subcurve) (d : ℕ) where
       let farther : (j : ℕ) → j < i → is_open_at j ≡ true → counts Nearest (leaf j) ≡ true → nearer i j ≡ true = λ j l o e. h.2 j l (rw (o, e)) in
       (h.0, here.0, here.1, (λ j l o e. ⊎_elim (λ same. rw same (lt_itself _)) (⊎_elim (λ less. lt_asym _ _ (farther j less o e)) (λ more. h.3 j more l (rw (o, e)))) (cases j i)), farther)
 
-  -- what the walk comes to, with which leaf decides
+  -- what the walk comes to where a leaf passes, with which leaf decides
+  abbrev pub MetSays : Crossing → Result Frame Refusal → Type 0
+  MetSays x (Ok f) = (i : ℕ) × (leaf i ≡ with_frame x f) × Best i
+  MetSays x (Err reason) = (i : ℕ) × (i < 2 ^ d) × (is_open_at i ≡ true) × (leaf i ≡ without_frame x reason)
+
+  -- and wherever it comes to
   abbrev pub Says : Leaf → Type 0
-  Says (Passes x f) = (i : ℕ) × (leaf i ≡ Passes x f) × Best i
-  Says Fails = (j : ℕ) → j < 2 ^ d → is_open_at j ≡ true → counts Nearest (leaf j) ≡ false
-  Says (NoFrame reason t) = (i : ℕ) × (i < 2 ^ d) × (is_open_at i ≡ true) × (leaf i ≡ NoFrame reason t)
+  Says (Some m) = MetSays m.at m.frame
+  Says None = (j : ℕ) → j < 2 ^ d → is_open_at j ≡ true → counts Nearest (leaf j) ≡ false
 
   pub leaf_says : Says (leaf_by Nearest c v s d)
   unfolding leaf_by ends
   leaf_says = rw (end_first, best_below_lem) (go (first_below (2 ^ d) open_ends) (first_is (2 ^ d) open_ends) (best_below nearer (2 ^ d) open_counts) best)
     where
       ending : (i : ℕ) (l : Leaf) → i < 2 ^ d → is_open_at i ≡ true → leaf i ≡ l → ends Nearest l ≡ true → Says l
-      ending i (Passes x f) less o same e = absurd (false≢true e)
-      ending i Fails less o same e = absurd (false≢true e)
-      ending i (NoFrame reason t) less o same e = (i, less, o, same)
+      ending i (Some m) less o same e = go' m.frame same e
+        where
+          go' : (f : Result Frame Refusal) → leaf i ≡ Some (record { at = m.at; frame = f }) → ends Nearest (Some (record { at = m.at; frame = f })) ≡ true → MetSays m.at f
+          go' (Ok f) same e = absurd (false≢true e)
+          go' (Err reason) same e = (i, less, o, same)
+      ending i None less o same e = absurd (false≢true e)
 
       deciding : (i : ℕ) (l : Leaf) → leaf i ≡ l → HasFrame l → Best i → Says l
-      deciding i (Passes x f) e h b = (i, e, b)
-      deciding i Fails e h b = absurd (false≢true (ap passes h.2))
-      deciding i (NoFrame reason t) e h b = absurd (true≢false (ap has_no_frame h.2))
+      deciding i (Some m) e h b = go' m.frame e h.2
+        where
+          go' : (f : Result Frame Refusal) → leaf i ≡ Some (record { at = m.at; frame = f }) → Some (record { at = m.at; frame = f }) ≡ with_frame h.0 h.1 → MetSays m.at f
+          go' (Ok f) e same = (i, e, b)
+          go' (Err reason) e same = absurd (true≢false (ap has_no_frame same))
+      deciding i None e h b = absurd (false≢true (ap passes h.2))
 
-      go : (o : Option ℕ) → IsFirst (2 ^ d) open_ends o → (p : Option ℕ) → IsBest nearer open_counts (2 ^ d) p → Says (at_or leaf Fails (or_else o p))
+      go : (o : Option ℕ) → IsFirst (2 ^ d) open_ends o → (p : Option ℕ) → IsBest nearer open_counts (2 ^ d) p → Says (at_or leaf None (or_else o p))
       go (some i) h p h' = let here = both (is_open_at i) (ends Nearest (leaf i)) h.1 in ending i (leaf i) h.0 here.0 refl here.1
       go none h (some i) h' = let b = best_says i h' in deciding i (leaf i) refl (has-frame (leaf i) b.2 (neither (is_open_at i) (ends Nearest (leaf i)) (h i b.0) b.1)) b
       go none h none h' = λ j l o. neither (is_open_at j) (counts Nearest (leaf j)) (h' j l) o

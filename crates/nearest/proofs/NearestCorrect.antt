@@ -25,8 +25,7 @@ use Rattle.overlap.specs.Depth.{depth_of}
 use Rattle.overlap.specs.Subcurve.{whole_of}
 use Rattle.leaf.specs.declared.leaf.Crossing.{Crossing}
 use Rattle.leaf.specs.declared.leaf.Frame.{Frame}
-use Rattle.leaf.specs.declared.leaf.Leaf.{Leaf}
-use Rattle.leaf.specs.declared.leaf.Leaf.TheVariants.{Passes, Fails, NoFrame}
+use Rattle.leaf.specs.Leaf.{Leaf, with_frame}
 use Rattle.leaf.specs.Record.{flips_of, record_of}
 use Rattle.interaction.specs.declared.SurfaceInteraction.{SurfaceInteraction}
 use Rattle.walk.specs.declared.rule.Rule.TheVariants as rule
@@ -34,9 +33,9 @@ use Rattle.walk.specs.Leaves.{leaf_at}
 use Rattle.walk.specs.Rule.{passes, distance_of, counts}
 use Rattle.walk.specs.Walk.{leaf_by}
 use Rattle.nearest.specs.Correct.{OpenLeaf, IsRecord, Before, framed_at, LeafIn, NearestIs, refusals, Correct}
-use Rattle.nearest.specs.Nearest.{Nearest, is_hit, is_refused, distance_in, among, leaf_answer, framed_answer, answer_of, answer_at, nearest_aimed, nearest_refusals, nearest_of}
+use Rattle.nearest.specs.Nearest.{Nearest, is_hit, is_refused, distance_in, among, hit_answer, leaf_answer, framed_answer, answer_of, answer_at, nearest_aimed, nearest_refusals, nearest_of}
 use Rattle.nearest.proofs.FirstRefusal.{refusal_in, refusal-first}
-use Rattle.nearest.proofs.LeafSays.{counts-number, uncounted_not_below, Says, leaf_says}
+use Rattle.nearest.proofs.LeafSays.{counts-number, uncounted_not_below, MetSays, Says, leaf_says}
 
 -- whether a leaf that passes counts
 counted? : (l : Leaf) → (counts rule.Nearest l ≡ true) ⊎ (counts rule.Nearest l ≡ false)
@@ -62,7 +61,7 @@ module _ (c : Curve) (flip : Bool) (k : ℕ) where
     pub i : ℕ
     pub x : Crossing
     pub frame : Frame
-    pub leaf : OpenLeaf c f i (Passes x frame)
+    pub leaf : OpenLeaf c f i (with_frame x frame)
     pub record_is : IsRecord c flip f x frame h
     pub distance_is : h.t_hit ≡ x.t
     pub is_number : is_nan x.t ≡ false
@@ -79,10 +78,9 @@ module _ (c : Curve) (flip : Bool) (k : ℕ) where
   curve_says (Err reason) = tt
   curve_says (Ok f) = go (leaf_by rule.Nearest c f.view (whole_of c f.cubic) (depth_of c f.cubic)) (leaf_says c f.view (whole_of c f.cubic) (depth_of c f.cubic))
     where
-      go : (l : Leaf) → Says c f.view (whole_of c f.cubic) (depth_of c f.cubic) l → CurveSays (Ok f) (leaf_answer c flip k f.ray l)
-      go (NoFrame reason t) says = tt
-      go Fails says = λ j l o. rw o.2 at (says j o.0 o.1)
-      go (Passes x frame) says =
+      met : (x : Crossing) (g : Result Frame Refusal) → MetSays c f.view (whole_of c f.cubic) (depth_of c f.cubic) x g → CurveSays (Ok f) (hit_answer c flip k f.ray x g)
+      met x (Err reason) says = tt
+      met x (Ok frame) says =
           let b = says.2 in
           let here = says.1 in (
             refl,
@@ -98,6 +96,10 @@ module _ (c : Curve) (flip : Bool) (k : ℕ) where
               earlier_farther = λ j l o less e. rw (here, o.2) at (b.4 j less o.1 (rw o.2 e));
             },
           )
+
+      go : (l : Leaf) → Says c f.view (whole_of c f.cubic) (depth_of c f.cubic) l → CurveSays (Ok f) (leaf_answer c flip k f.ray l)
+      go (Some m) says = met m.at m.frame says
+      go None says = λ j l o. rw o.2 at (says j o.0 o.1)
 
 -- ---- the list
 
@@ -240,9 +242,9 @@ module _ (list : List Float) (o2w w2o : Matrix4x4) (reverse : Bool) (r : Ray) wh
 
       missed : (a : Nearest) → given ≡ a → ListSays list w2o r (flips_of reverse o2w) a → first_of (refusals list o2w w2o r) ≡ None
           → ((k i : ℕ) (l : Leaf) → LeafIn list w2o r k i l → counts rule.Nearest l ≡ false) → a ≡ Ok None
-      missed (Ok (Some h)) e says f uncounted = absurd (counted-not says.is_number (uncounted h.1 says.i (Passes says.x says.frame) says.leaf))
+      missed (Ok (Some h)) e says f uncounted = absurd (counted-not says.is_number (uncounted h.1 says.i (with_frame says.x says.frame) says.leaf))
         where
-          counted-not : is_nan says.x.t ≡ false → counts rule.Nearest (Passes says.x says.frame) ≡ false → ⊥
+          counted-not : is_nan says.x.t ≡ false → counts rule.Nearest (with_frame says.x says.frame) ≡ false → ⊥
           counted-not number e = false≢true (sym e ∙ rw number)
       missed (Ok None) e says f uncounted = refl
       missed (Err reason) e says f uncounted = let some = refusal-told (Err reason) e in absurd (cc)

@@ -22,12 +22,13 @@ use Rattle.frame.specs.declared.frame.Framed.{Framed}
 use Rattle.frame.specs.Frame.{aimed_of, with_aim}
 use Rattle.overlap.specs.Depth.{depth_of}
 use Rattle.overlap.specs.Subcurve.{whole_of}
-use Rattle.leaf.specs.declared.leaf.Leaf.{Leaf}
-use Rattle.leaf.specs.declared.leaf.Leaf.TheVariants.{Passes, Fails, NoFrame}
+use Rattle.leaf.specs.declared.leaf.Crossing.{Crossing}
+use Rattle.leaf.specs.declared.leaf.Frame.{Frame}
+use Rattle.leaf.specs.Leaf.{Leaf}
 use Rattle.leaf.specs.Record.{flips_of}
 use Rattle.walk.specs.declared.rule.Rule.TheVariants as rule
 use Rattle.walk.specs.Walk.{leaf_by}
-use Rattle.nearest.specs.Nearest.{Nearest, among, nearer_of, joined, as_number, leaf_answer, framed_answer, answer_of, answer_at, nearest_aimed, nearest_refusals, nearest_of}
+use Rattle.nearest.specs.Nearest.{Nearest, among, nearer_of, joined, as_number, hit_answer, leaf_answer, framed_answer, answer_of, answer_at, nearest_aimed, nearest_refusals, nearest_of}
 use Rattle.nearest.proofs.Among.{one_more, none_yet}
 
 -- ---- the curves of a list with one more
@@ -59,10 +60,13 @@ module _ (flip : Bool) (aimed : Option Aim) where
   unfolding answer_of framed_answer leaf_answer
   renumbered k n l = go (first_of (lent_refusals l)) (with_aim (curve_from l) aimed)
     where
+      hit : (r : Ray) (x : Crossing) (f : Result Frame Refusal) → as_number n (hit_answer (curve_from l) flip k r x f) ≡ hit_answer (curve_from l) flip n r x f
+      hit r x (Ok f) = refl
+      hit r x (Err reason) = refl
+
       leaf : (r : Ray) (x : Leaf) → as_number n (leaf_answer (curve_from l) flip k r x) ≡ leaf_answer (curve_from l) flip n r x
-      leaf r (Passes at f) = refl
-      leaf r Fails = refl
-      leaf r (NoFrame reason t) = refl
+      leaf r (Some m) = hit r m.at m.frame
+      leaf r None = refl
 
       go : (o : Option Refusal) (f : Result Framed Refusal) → as_number n (told o (framed_answer (curve_from l) flip k f)) ≡ told o (framed_answer (curve_from l) flip n f)
       go (Some reason) f = refl

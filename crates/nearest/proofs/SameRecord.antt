@@ -27,8 +27,7 @@ use Rattle.overlap.specs.Depth.{depth_of}
 use Rattle.overlap.specs.Subcurve.{whole_of}
 use Rattle.leaf.specs.declared.leaf.Crossing.{Crossing}
 use Rattle.leaf.specs.declared.leaf.Frame.{Frame}
-use Rattle.leaf.specs.declared.leaf.Leaf.{Leaf}
-use Rattle.leaf.specs.declared.leaf.Leaf.TheVariants.{Passes, Fails, NoFrame}
+use Rattle.leaf.specs.Leaf.{Leaf, with_frame}
 use Rattle.leaf.specs.Record.{flips_of, record_of}
 use Rattle.interaction.specs.declared.SurfaceInteraction.{SurfaceInteraction}
 use Rattle.walk.specs.declared.rule.Rule.TheVariants as rule
@@ -41,13 +40,13 @@ use Rattle.intersect.specs.Intersect.{stop_of, last_of, count_of, replied_at, in
 use Rattle.intersect.proofs.ReplySays.{stop_passes, decided}
 use Rattle.nearest.specs.Correct.{OpenLeaf}
 use Rattle.nearest.specs.Nearest.{leaf_answer, framed_answer, answer_of, nearest_of}
-use Rattle.nearest.proofs.LeafSays.{Says, leaf_says}
+use Rattle.nearest.proofs.LeafSays.{MetSays, Says, leaf_says}
 use Rattle.nearest.proofs.OneMore.{alone, whole-list}
 
 -- ---- the leaves
 
 module _ (c : Curve) (v : View) (s : Subcurve) (d : ℕ) (i : ℕ) (x : Crossing) (f : Frame)
-    (below : i < 2 ^ d) (is_open_lem : open_at c v s d i ≡ true) (answers : leaf_at c v s d i ≡ Passes x f)
+    (below : i < 2 ^ d) (is_open_lem : open_at c v s d i ≡ true) (answers : leaf_at c v s d i ≡ with_frame x f)
     (only : (j : ℕ) → j < 2 ^ d → open_at c v s d j ≡ true → passes (leaf_at c v s d j) ≡ true → j ≡ i) where
   -- it is the stop, or there is none and it is the last
   decides : (o p : Option ℕ) → FirstIs c v s d o → LastIs c v s d p → or_else o p ≡ some i
@@ -60,20 +59,23 @@ module _ (c : Curve) (v : View) (s : Subcurve) (d : ℕ) (i : ℕ) (x : Crossing
   replied ray flip = let says = decided c v s d ray flip in rw (decides (stop_of c v s d) (last_of c v s d) says.stop_is says.last_is, answers)
 
   -- and it is the nearest
-  nearest-leaf : is_nan x.t ≡ false → leaf_by rule.Nearest c v s d ≡ Passes x f
+  nearest-leaf : is_nan x.t ≡ false → leaf_by rule.Nearest c v s d ≡ with_frame x f
   unfolding counts
   nearest-leaf number = go (leaf_by rule.Nearest c v s d) (leaf_says c v s d)
     where
-      this : (j : ℕ) (l : Leaf) → j < 2 ^ d → open_at c v s d j ≡ true → leaf_at c v s d j ≡ l → passes l ≡ true → l ≡ Passes x f
+      this : (j : ℕ) (l : Leaf) → j < 2 ^ d → open_at c v s d j ≡ true → leaf_at c v s d j ≡ l → passes l ≡ true → l ≡ with_frame x f
       this j l less o e p = sym e ∙ ap (leaf_at c v s d) (only j less o (ap passes e ∙ p)) ∙ answers
 
-      go : (l : Leaf) → Says c v s d l → l ≡ Passes x f
-      go (Passes x' f') says = this says.0 (Passes x' f') says.2.0 says.2.1 says.1 refl
-      go Fails says = absurd (true≢false (sym (counted number) ∙ rw answers at (says i below is_open_lem)))
+      met : (x' : Crossing) (g : Result Frame Refusal) → MetSays c v s d x' g → Some (record { at = x'; frame = g }) ≡ with_frame x f
+      met x' (Ok f') says = this says.0 _ says.2.0 says.2.1 says.1 refl
+      met x' (Err reason) says = this says.0 _ says.1 says.2 says.3 refl
+
+      go : (l : Leaf) → Says c v s d l → l ≡ with_frame x f
+      go (Some m) says = met m.at m.frame says
+      go None says = absurd (true≢false (sym (counted number) ∙ rw answers at (says i below is_open_lem)))
         where
-          counted : is_nan x.t ≡ false → counts rule.Nearest (Passes x f) ≡ true
+          counted : is_nan x.t ≡ false → counts rule.Nearest (with_frame x f) ≡ true
           counted e = rw e
-      go (NoFrame reason t) says = this says.0 (NoFrame reason t) says.1 says.2 says.3 refl
 
 -- ---- the call
 
@@ -104,12 +106,12 @@ module _ (l : List Float) (o2w w2o : Matrix4x4) (reverse : Bool) (r : Ray) (i : 
         let one = curve_length l is_curve_lem in
         rw (whole-list l 1 o2w w2o r (omega arith), rays_pass, alone (flips_of reverse o2w) (aimed_of w2o r) l one, is_curve_lem, e)
 
-    pub same_record : OpenLeaf (curve_from l) (framed_curve (curve_from l) w2o r) i (Passes x f) → is_nan x.t ≡ false
+    pub same_record : OpenLeaf (curve_from l) (framed_curve (curve_from l) w2o r) i (with_frame x f) → is_nan x.t ≡ false
         → ((j : ℕ) (leaf : Leaf) → OpenLeaf (curve_from l) (framed_curve (curve_from l) w2o r) j leaf → passes leaf ≡ true → j ≡ i) → SameRecord
     unfolding intersect_framed intersect_whole framed_answer leaf_answer whole_of
     same_record = go (framed_curve (curve_from l) w2o r) refl
       where
-        go : (g : Result Framed Refusal) → framed_curve (curve_from l) w2o r ≡ g → OpenLeaf (curve_from l) g i (Passes x f) → is_nan x.t ≡ false
+        go : (g : Result Framed Refusal) → framed_curve (curve_from l) w2o r ≡ g → OpenLeaf (curve_from l) g i (with_frame x f) → is_nan x.t ≡ false
             → ((j : ℕ) (leaf : Leaf) → OpenLeaf (curve_from l) g j leaf → passes leaf ≡ true → j ≡ i) → SameRecord
         go (Err reason) e at number only = absurd at
         go (Ok g) e at number only =

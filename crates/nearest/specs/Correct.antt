@@ -17,8 +17,7 @@ use Rattle.overlap.specs.Depth.{depth_of}
 use Rattle.overlap.specs.Subcurve.{whole_of}
 use Rattle.leaf.specs.declared.leaf.Crossing.{Crossing}
 use Rattle.leaf.specs.declared.leaf.Frame.{Frame}
-use Rattle.leaf.specs.declared.leaf.Leaf.{Leaf}
-use Rattle.leaf.specs.declared.leaf.Leaf.TheVariants.{Passes, Fails, NoFrame}
+use Rattle.leaf.specs.Leaf.{Leaf, with_frame}
 use Rattle.leaf.specs.Record.{flips_of, record_of}
 use Rattle.interaction.specs.declared.SurfaceInteraction.{SurfaceInteraction}
 use Rattle.walk.specs.declared.rule.Rule.TheVariants as rule
@@ -57,7 +56,7 @@ module _ (list : List Float) (w2o : Matrix4x4) (r : Ray) where
     pub x : Crossing
     pub frame : Frame
     -- "A hit's sliver is open and passes,"
-    pub leaf : LeafIn k i (Passes x frame)
+    pub leaf : LeafIn k i (with_frame x frame)
     pub record_is : IsRecord (curve_from (curve_at list k)) flip (framed_at k) x frame h
     -- "A NaN distance counts as not passing."
     pub is_number : is_nan x.t ≡ false
@@ -68,11 +67,15 @@ module _ (list : List Float) (w2o : Matrix4x4) (r : Ray) where
 
 -- ---- the refusals, all of them in their order
 
+-- the refusal of a frame that is not there, where it applies
+abbrev pub frame_row : Bool → Result Frame Refusal → Table
+frame_row applies (Ok f) = []
+frame_row applies (Err reason) = (applies, reason) ∷ []
+
 -- a leaf's: 14, 15 or 16 where it is open, has no frame and lies at no NaN
 abbrev pub leaf_row : Bool → Leaf → Table
-leaf_row is_open (Passes x f) = []
-leaf_row is_open Fails = []
-leaf_row is_open (NoFrame reason t) = (is_open && ends rule.Nearest (NoFrame reason t), reason) ∷ []
+leaf_row is_open (Some m) = frame_row (is_open && ends rule.Nearest (Some m)) m.frame
+leaf_row is_open None = []
 
 -- the leaves from 0 up
 unfoldable pub leaf_refusals : Curve → Result Framed Refusal → Table

@@ -18,8 +18,9 @@ use Rattle.frame.specs.declared.frame.Framed.{Framed}
 use Rattle.frame.specs.Frame.{aimed_of, with_aim}
 use Rattle.overlap.specs.Depth.{depth_of}
 use Rattle.overlap.specs.Subcurve.{whole_of}
-use Rattle.leaf.specs.declared.leaf.Leaf.{Leaf}
-use Rattle.leaf.specs.declared.leaf.Leaf.TheVariants.{Passes, Fails, NoFrame}
+use Rattle.leaf.specs.declared.leaf.Crossing.{Crossing}
+use Rattle.leaf.specs.declared.leaf.Frame.{Frame}
+use Rattle.leaf.specs.Leaf.{Leaf}
 use Rattle.leaf.specs.Record.{flips_of, record_of}
 use Rattle.interaction.specs.declared.SurfaceInteraction.{SurfaceInteraction}
 use Rattle.walk.specs.declared.rule.Rule.TheVariants as rule
@@ -75,11 +76,15 @@ as_number n (Err reason) = Err reason
 
 -- ---- one curve, as number k
 
--- what a leaf gives, for the ray in the object's frame: its record, or why there is none
+-- what a leaf that passes gives, for the ray in the object's frame: its record, or why there is none
+abbrev pub hit_answer : Curve → Bool → ℕ → Ray → Crossing → Result Frame Refusal → Nearest
+hit_answer c flip k ray at (Ok f) = Ok (Some (record_of c ray flip at f, k))
+hit_answer c flip k ray at (Err reason) = Err reason
+
+-- and any leaf
 unfoldable pub leaf_answer : Curve → Bool → ℕ → Ray → Leaf → Nearest
-leaf_answer c flip k ray (Passes at f) = Ok (Some (record_of c ray flip at f, k))
-leaf_answer c flip k ray Fails = Ok None
-leaf_answer c flip k ray (NoFrame reason t) = Err reason
+leaf_answer c flip k ray (Some m) = hit_answer c flip k ray m.at m.frame
+leaf_answer c flip k ray None = Ok None
 
 unfoldable pub framed_answer : Curve → Bool → ℕ → Result Framed Refusal → Nearest
 framed_answer c flip k (Ok f) = leaf_answer c flip k f.ray (leaf_by rule.Nearest c f.view (whole_of c f.cubic) (depth_of c f.cubic))

@@ -10,7 +10,7 @@ use curve::{CurveRef, FLOATS};
 use frame::{Aim, aim_ray};
 use geometry::Ray;
 pub use interaction::SurfaceInteraction;
-use leaf::{Leaf, flips, record_at};
+use leaf::{flips, record_at};
 use limits::{Refusal, check_ray};
 use matrix::Matrix4x4;
 use walk::{Reached, Rule, walk_aimed};
@@ -24,15 +24,14 @@ fn meet_along(curve: &CurveRef<'_>, flip: bool, a: Aim, k: usize) -> Result<Opti
     ensures { result ≡ framed_answer curve.now flip k (framed_along curve.now a) }
 {
     let mut reached = Reached {
-        leaf: Leaf::Fails,
+        leaf: None,
         looked: 0,
     };
     walk_aimed(curve, a, Rule::Nearest, &mut reached)?;
-    match reached.leaf {
-        Leaf::Passes(at, frame) => Ok(Some((record_at(curve, a.ray, flip, at, frame), k))),
-        Leaf::Fails => Ok(None),
-        Leaf::NoFrame(refusal, _) => Err(refusal),
-    }
+    let Some(met) = reached.leaf else {
+        return Ok(None);
+    };
+    Ok(Some((record_at(curve, a.ray, flip, met.at, met.frame?), k)))
 }
 
 // The same of its floats. Where the ray's origin has no place in the object's frame there is no aim, and floats that are no

@@ -6,6 +6,7 @@ use Prim.Native.Nat.{ℕ, suc, ◌+◌, ◌^◌, ◌≤◌}
 use native.Mathlib.Numerals.{add-one}
 use native.Mathlib.Omega.{arith}
 use lib.Pow.{pow_mono}
+use Rattle.std.specs.Prelude.{None}
 use Rattle.bezier.specs.declared.cubic.Cubic.{Cubic}
 use Rattle.bisection.specs.Below.{or_else, at_or}
 use Rattle.bisection.specs.Nodes.{node, first_open, best_open, open_up_to}
@@ -19,9 +20,7 @@ use Rattle.overlap.specs.Depth.{depth_of}
 use Rattle.overlap.specs.Subcurve.{low_half, high_half}
 use Rattle.overlap.specs.Thrown.{is_thrown, is_whole_thrown}
 use Rattle.overlap.proofs.DepthMost.{depth_most}
-use Rattle.leaf.specs.declared.leaf.Leaf.{Leaf}
-use Rattle.leaf.specs.declared.leaf.Leaf.TheVariants.{Fails}
-use Rattle.leaf.specs.Leaf.{leaf_of}
+use Rattle.leaf.specs.Leaf.{Leaf, leaf_of}
 use Rattle.walk.specs.declared.rule.Rule.{Rule}
 use Rattle.walk.specs.Leaves.{subcurve_at, leaf_at}
 use Rattle.walk.specs.Rule.{counts, ends, beats}
@@ -34,7 +33,7 @@ use Rattle.walk.proofs.Rules.{ends-counts, end_takes, goes_on_lem, none_ends, sk
 abbrev pub with_count : ℕ → Leaf → Reached
 with_count n l = record { leaf = l; looked = n }
 
-reached-at : (f : ℕ → Leaf) (n : ℕ) (o : Option ℕ) → at_or (λ i. with_count n (f i)) (with_count n Fails) o ≡ with_count n (at_or f Fails o)
+reached-at : (f : ℕ → Leaf) (n : ℕ) (o : Option ℕ) → at_or (λ i. with_count n (f i)) (with_count n None) o ≡ with_count n (at_or f None o)
 reached-at f n none = refl
 reached-at f n (some i) = refl
 
@@ -53,7 +52,7 @@ module _ (rule : Rule) (c : Curve) (v : View) where
     step_enter = λ s r. refl;
   }
 
-  keeps : Keeps (λ s. settled rule (leaf_of c v s)) entered (λ s. ends rule (leaf_of c v s)) (λ s. counts rule (leaf_of c v s)) (λ p q. beats rule (leaf_of c v p) (leaf_of c v q)) (λ n s. with_count n (leaf_of c v s)) (λ n. with_count n Fails) Live
+  keeps : Keeps (λ s. settled rule (leaf_of c v s)) entered (λ s. ends rule (leaf_of c v s)) (λ s. counts rule (leaf_of c v s)) (λ p q. beats rule (leaf_of c v p) (leaf_of c v q)) (λ n s. with_count n (leaf_of c v s)) (λ n. with_count n None) Live
   unfolding is_over entered settled
   keeps = record {
     live_miss = none_ends rule;
@@ -70,7 +69,7 @@ module _ (rule : Rule) (c : Curve) (v : View) where
       chosen p q false = refl
 
   module _ (s : Subcurve) (d : ℕ) where
-    walked : is_whole_thrown c v.zmax s ≡ false → walk_in rule c v d s (with_count 0 Fails) ≡ reached_by rule c v s d
+    walked : is_whole_thrown c v.zmax s ≡ false → walk_in rule c v d s (with_count 0 None) ≡ reached_by rule c v s d
     unfolding walk_in leaf_by count_by end_by best_by leaf_at subcurve_at
     walked e =
         let thrown = is_thrown c v.zmax in
@@ -78,10 +77,10 @@ module _ (rule : Rule) (c : Curve) (v : View) where
         let best = best_open low_half high_half thrown (λ s. counts rule (leaf_of c v s)) (λ p q. beats rule (leaf_of c v p) (leaf_of c v q)) true s d in
         rw e
         (walk_best low_half high_half thrown entered (λ s. settled rule (leaf_of c v s)) (is_over rule) (λ s. ends rule (leaf_of c v s)) (λ s. counts rule (leaf_of c v s))
-        (λ p q. beats rule (leaf_of c v p) (leaf_of c v q)) (λ n s. with_count n (leaf_of c v s)) (λ n. with_count n Fails) Live laws keeps s d
+        (λ p q. beats rule (leaf_of c v p) (leaf_of c v q)) (λ n s. with_count n (leaf_of c v s)) (λ n. with_count n None) Live laws keeps s d
         ∙ reached-at (λ i. leaf_of c v (node low_half high_half s d i)) (open_up_to low_half high_half thrown true s d stop) (or_else stop best))
 
-    none_open : is_whole_thrown c v.zmax s ≡ true → Fails ≡ leaf_by rule c v s d
+    none_open : is_whole_thrown c v.zmax s ≡ true → None ≡ leaf_by rule c v s d
     unfolding leaf_by end_by best_by
     none_open e = rw (e, first_shut, best_shut)
 
@@ -91,7 +90,7 @@ module _ (rule : Rule) (c : Curve) (v : View) where
 
 -- ---- the returns of `walk_whole`, and what it shows of its call
 
-pub none_over : (rule : Rule) → is_over rule (with_count 0 Fails) ≡ false
+pub none_over : (rule : Rule) → is_over rule (with_count 0 None) ≡ false
 unfolding is_over
 none_over rule = none_ends rule
 
@@ -101,9 +100,9 @@ whole_room c cp =
     omega (arith, pow_mono small)
 
 module _ (rule : Rule) (c : Curve) (v : View) (s : Subcurve) where
-  pub whole_shut : is_whole_thrown c v.zmax s ≡ true → (r : Reached) → r ≡ with_count 0 Fails → r ≡ reached_by rule c v s (depth_of c s.cp)
+  pub whole_shut : is_whole_thrown c v.zmax s ≡ true → (r : Reached) → r ≡ with_count 0 None → r ≡ reached_by rule c v s (depth_of c s.cp)
   whole_shut t r z =
       z ∙ rw (← none_open rule c v s (depth_of c s.cp) t, ← none_counted rule c v s (depth_of c s.cp) t)
 
-  pub whole_walked : is_whole_thrown c v.zmax s ≡ false → (r q : Reached) → q ≡ with_count 0 Fails → r ≡ walk_in rule c v (depth_of c s.cp) s q → r ≡ reached_by rule c v s (depth_of c s.cp)
+  pub whole_walked : is_whole_thrown c v.zmax s ≡ false → (r q : Reached) → q ≡ with_count 0 None → r ≡ walk_in rule c v (depth_of c s.cp) s q → r ≡ reached_by rule c v s (depth_of c s.cp)
   whole_walked t r q z w = w ∙ rw z (walked rule c v s (depth_of c s.cp) t)

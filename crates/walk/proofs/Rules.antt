@@ -1,54 +1,56 @@
 -- What the rules have in common. Assumes nothing.
-use mathlib.Core.Bool.{Bool, true, false, not, cond, ◌||◌, false≢true, true≢false}
+use mathlib.Core.Bool.{Bool, true, false, not, cond, ◌&&◌, ◌||◌, and-eq-true_iff, false≢true, true≢false}
 use mathlib.Core.Path.{◌≡◌, refl}
 use lib.Ieee.{Float, nan, inf, fin, is_nan, lt}
+use Rattle.std.specs.Prelude.{Some, None, is_err}
 use Rattle.limits.specs.declared.refusal.Refusal.{Refusal}
-use Rattle.leaf.specs.declared.leaf.Leaf.{Leaf}
-use Rattle.leaf.specs.declared.leaf.Leaf.TheVariants.{Passes, Fails, NoFrame}
+use Rattle.leaf.specs.declared.leaf.Crossing.{Crossing}
+use Rattle.leaf.specs.declared.leaf.Met.{Met}
+use Rattle.leaf.specs.Leaf.{Leaf, without_frame}
 use Rattle.walk.specs.declared.rule.Rule.{Rule}
 use Rattle.walk.specs.declared.rule.Rule.TheVariants.{Last, Nearest}
 use Rattle.walk.specs.Rule.{is_counted, is_better, counts, ends, beats}
-use Rattle.walk.specs.Steps.{takes_place, later}
+use Rattle.walk.specs.Steps.{takes_place, is_taken, later}
+
+-- ---- by the rule of the last each leaf that passes is taken
+
+last_taken : (m : Met) (before : Leaf) → is_taken Last m before ≡ true
+unfolding is_taken takes_place is_counted is_better
+last_taken m before = go (is_err m.frame) before
+  where
+    go : (b : Bool) (before : Leaf) → cond b true (takes_place Last m.at.t before) ≡ true
+    go true before = refl
+    go false (Some m') = refl
+    go false None = refl
 
 -- ---- a leaf that ends the walk
 
 -- it passes
 pub ends-counts : (rule : Rule) (l : Leaf) → ends rule l ≡ true → counts rule l ≡ true
 unfolding ends counts
-ends-counts Last (Passes at f) e = refl
-ends-counts Last Fails e = e
-ends-counts Last (NoFrame k t) e = refl
-ends-counts Nearest (Passes at f) e = absurd (false≢true e)
-ends-counts Nearest Fails e = e
-ends-counts Nearest (NoFrame k t) e = e
+ends-counts Last (Some m) e = refl
+ends-counts Last None e = e
+ends-counts Nearest (Some m) e = ((and-eq-true_iff _ _).0 e).1
+ends-counts Nearest None e = e
 
 -- and takes every place
 pub end_takes : (rule : Rule) (l before : Leaf) → ends rule l ≡ true → later rule l before ≡ l
-unfolding ends later takes_place is_better is_counted
-end_takes Last (Passes at f) (Passes at' f') e = refl
-end_takes Last (Passes at f) Fails e = refl
-end_takes Last (Passes at f) (NoFrame k t) e = refl
-end_takes Last Fails before e = absurd (false≢true e)
-end_takes Last (NoFrame k t) before e = refl
-end_takes Nearest (Passes at f) before e = absurd (false≢true e)
-end_takes Nearest Fails before e = absurd (false≢true e)
-end_takes Nearest (NoFrame k t) before e = rw e
+unfolding ends later is_taken is_counted
+end_takes Last (Some m) before e = rw (last_taken m before)
+end_takes Last None before e = absurd (false≢true e)
+end_takes Nearest (Some m) before e = let h = (and-eq-true_iff (is_err m.frame) (not (is_nan m.at.t))).0 e in rw (h.0, h.1)
+end_takes Nearest None before e = absurd (false≢true e)
 
 -- ---- one that does not
 
 pub goes_on_lem : (rule : Rule) (l before : Leaf) → ends rule l ≡ false → ends rule before ≡ false → ends rule (later rule l before) ≡ false
 unfolding later
-goes_on_lem rule (Passes at f) before e h = go (takes_place rule at.t before)
+goes_on_lem rule (Some m) before e h = go (is_taken rule m before)
   where
-    go : (b : Bool) → ends rule (cond b (Passes at f) before) ≡ false
+    go : (b : Bool) → ends rule (cond b (Some m) before) ≡ false
     go true = e
     go false = h
-goes_on_lem rule Fails before e h = h
-goes_on_lem rule (NoFrame k t) before e h = go (is_counted rule t)
-  where
-    go : (b : Bool) → ends rule (cond b (NoFrame k t) before) ≡ false
-    go true = e
-    go false = h
+goes_on_lem rule None before e h = h
 
 -- so what was not ended is, where this leaf ends it
 pub ends-later : (rule : Rule) (l before : Leaf) → ends rule before ≡ false → ends rule (later rule l before) ≡ ends rule l
@@ -58,16 +60,16 @@ ends-later rule l before h = go (ends rule l) refl
     go true e = rw (end_takes rule l before e)
     go false e = rw e (goes_on_lem rule l before e h)
 
-pub none_ends : (rule : Rule) → ends rule Fails ≡ false
+pub none_ends : (rule : Rule) → ends rule None ≡ false
 unfolding ends
 none_ends Last = refl
 none_ends Nearest = refl
 
 -- a leaf with no frame ends it where it passes
-pub no_frame_ends : (rule : Rule) (k : Refusal) (t : Float) → ends rule (NoFrame k t) ≡ is_counted rule t
+pub no_frame_ends : (rule : Rule) (at : Crossing) (k : Refusal) → ends rule (without_frame at k) ≡ is_counted rule at.t
 unfolding ends is_counted
-no_frame_ends Last k t = refl
-no_frame_ends Nearest k t = refl
+no_frame_ends Last at k = refl
+no_frame_ends Nearest at k = refl
 
 -- ---- which leaf stands
 
@@ -83,39 +85,46 @@ unfolding is_counted is_better
 not-better Last t x e = e
 not-better Nearest t x e = nan-below t x e
 
-pub skips : (rule : Rule) (l before : Leaf) → counts rule l ≡ false → later rule l before ≡ before
-unfolding counts later takes_place is_better is_counted
-skips Last (Passes at f) before e = absurd (true≢false e)
-skips Last Fails before e = refl
-skips Last (NoFrame k t) before e = absurd (true≢false e)
-skips Nearest (Passes at f) (Passes at' f') e = rw (nan-below at.t at'.t e)
-skips Nearest (Passes at f) Fails e = rw e
-skips Nearest (Passes at f) (NoFrame k t) e = rw (nan-below at.t t e)
-skips Nearest Fails before e = refl
-skips Nearest (NoFrame k t) before e = rw e
+nan_taken : (m : Met) (before : Leaf) → not (is_nan m.at.t) ≡ false → is_taken Nearest m before ≡ false
+unfolding is_taken takes_place is_counted is_better
+nan_taken m before e = go (is_err m.frame) before
+  where
+    go : (b : Bool) (before : Leaf) → cond b (not (is_nan m.at.t)) (takes_place Nearest m.at.t before) ≡ false
+    go true before = e
+    go false (Some m') = nan-below m.at.t m'.at.t e
+    go false None = e
 
-pub takes : (rule : Rule) (l : Leaf) → counts rule l ≡ true → later rule l Fails ≡ l
-unfolding counts later takes_place is_counted
-takes Last (Passes at f) e = refl
-takes Last Fails e = refl
-takes Last (NoFrame k t) e = refl
-takes Nearest (Passes at f) e = rw e
-takes Nearest Fails e = refl
-takes Nearest (NoFrame k t) e = rw e
+pub skips : (rule : Rule) (l before : Leaf) → counts rule l ≡ false → later rule l before ≡ before
+unfolding counts later
+skips Last (Some m) before e = absurd (true≢false e)
+skips Last None before e = refl
+skips Nearest (Some m) before e = rw (nan_taken m before e)
+skips Nearest None before e = refl
+
+same : (b c : Bool) → c ≡ true → cond b c c ≡ true
+same true c e = e
+same false c e = e
+
+pub takes : (rule : Rule) (l : Leaf) → counts rule l ≡ true → later rule l None ≡ l
+unfolding counts later is_taken takes_place is_counted
+takes Last (Some m) e = rw (same (is_err m.frame) true refl)
+takes Last None e = refl
+takes Nearest (Some m) e = rw (same (is_err m.frame) (not (is_nan m.at.t)) e)
+takes Nearest None e = refl
 
 or_true : (b : Bool) → b || true ≡ true
 or_true true = refl
 or_true false = refl
 
 pub chooses : (rule : Rule) (p q : Leaf) → counts rule q ≡ true → counts rule p ≡ true → later rule p q ≡ cond (ends rule p || beats rule p q) p q
-unfolding counts ends beats later takes_place is_better is_counted
-chooses Last (Passes at f) (Passes at' f') e h = rw or_true
-chooses Last (Passes at f) Fails e h = absurd (false≢true e)
-chooses Last (Passes at f) (NoFrame k t) e h = rw or_true
-chooses Last Fails q e h = absurd (false≢true h)
-chooses Last (NoFrame k t) q e h = refl
-chooses Nearest (Passes at f) (Passes at' f') e h = refl
-chooses Nearest (Passes at f) Fails e h = absurd (false≢true e)
-chooses Nearest (Passes at f) (NoFrame k t) e h = refl
-chooses Nearest Fails q e h = absurd (false≢true h)
-chooses Nearest (NoFrame k t) q e h = rw h
+unfolding counts ends beats later is_taken takes_place is_better is_counted
+chooses Last (Some m) (Some m') e h = rw (last_taken m (Some m'), or_true)
+chooses Last (Some m) None e h = absurd (false≢true e)
+chooses Last None q e h = absurd (false≢true h)
+chooses Nearest (Some m) (Some m') e h = rw h (go (is_err m.frame))
+  where
+    go : (b : Bool) → cond (cond b true (lt m.at.t m'.at.t)) (Some m) (Some m') ≡ cond (b && true || lt m.at.t m'.at.t) (Some m) (Some m')
+    go true = refl
+    go false = refl
+chooses Nearest (Some m) None e h = absurd (false≢true e)
+chooses Nearest None q e h = absurd (false≢true h)

@@ -13,8 +13,7 @@ use Rattle.frame.specs.declared.frame.View.{View}
 use Rattle.overlap.specs.declared.subcurve.Subcurve.{Subcurve}
 use Rattle.overlap.specs.Subcurve.{low_half, high_half}
 use Rattle.overlap.specs.Thrown.{is_thrown}
-use Rattle.leaf.specs.declared.leaf.Leaf.{Leaf}
-use Rattle.leaf.specs.Leaf.{leaf_of}
+use Rattle.leaf.specs.Leaf.{Leaf, leaf_of}
 use Rattle.walk.specs.declared.rule.Rule.{Rule}
 use Rattle.walk.specs.declared.walk.Reached.{Reached}
 use Rattle.walk.specs.Rule.{ends}

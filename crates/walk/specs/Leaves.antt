@@ -8,8 +8,7 @@ use Rattle.frame.specs.declared.frame.View.{View}
 use Rattle.overlap.specs.declared.subcurve.Subcurve.{Subcurve}
 use Rattle.overlap.specs.Subcurve.{low_half, high_half}
 use Rattle.overlap.specs.Thrown.{is_thrown, is_whole_thrown}
-use Rattle.leaf.specs.declared.leaf.Leaf.{Leaf}
-use Rattle.leaf.specs.Leaf.{leaf_of}
+use Rattle.leaf.specs.Leaf.{Leaf, leaf_of}
 
 -- the subcurve j of level k
 unfoldable pub subcurve_at : Subcurve → ℕ → ℕ → Subcurve

@@ -1,10 +1,9 @@
 -- What a rule makes of a leaf's answer: whether it passes, whether it ends the walk, and whether it goes before an earlier one. Definitions only.
-use Rattle.std.specs.Prelude.{Bool, true, false, not, ◌&&◌, Float}
+use Rattle.std.specs.Prelude.{Bool, true, false, not, ◌&&◌, ◌||◌, Some, None, is_err, Float}
 use Rattle.std.specs.Float.{nan}
 use Rattle.std.specs.Float.Ieee.{is_nan, eq, lt}
 use Rattle.float.specs.Arith.{0f}
-use Rattle.leaf.specs.declared.leaf.Leaf.{Leaf}
-use Rattle.leaf.specs.declared.leaf.Leaf.TheVariants.{Passes, Fails, NoFrame}
+use Rattle.leaf.specs.Leaf.{Leaf}
 use Rattle.walk.specs.declared.rule.Rule.{Rule}
 use Rattle.walk.specs.declared.rule.Rule.TheVariants.{Last, Nearest}
 
@@ -12,26 +11,22 @@ use Rattle.walk.specs.declared.rule.Rule.TheVariants.{Last, Nearest}
 
 -- it passes: none of its tests returns false
 abbrev pub passes : Leaf → Bool
-passes (Passes at f) = true
-passes Fails = false
-passes (NoFrame k t) = true
+passes (Some m) = true
+passes None = false
 
 abbrev pub has_no_frame : Leaf → Bool
-has_no_frame (Passes at f) = false
-has_no_frame Fails = false
-has_no_frame (NoFrame k t) = true
+has_no_frame (Some m) = is_err m.frame
+has_no_frame None = false
 
 -- its distance, whether or not it has a frame: one that fails has none
 abbrev pub distance_of : Leaf → Float
-distance_of (Passes at f) = at.t
-distance_of Fails = nan
-distance_of (NoFrame k t) = t
+distance_of (Some m) = m.at.t
+distance_of None = nan
 
 -- it stops the walk, where it is open: it passes with no frame, or with distance equal to 0
 abbrev pub stops : Leaf → Bool
-stops (Passes at f) = eq at.t 0f
-stops Fails = false
-stops (NoFrame k t) = true
+stops (Some m) = is_err m.frame || eq m.at.t 0f
+stops None = false
 
 -- ---- by the rule
 

@@ -1,14 +1,13 @@
 -- The walk, as the code goes: what each step makes of what was reached so far. Definitions only. The contract of `walk_whole` does not cite them.
-use Rattle.std.specs.Prelude.{Bool, cond, ℕ, ◌+◌, Float}
+use Rattle.std.specs.Prelude.{Bool, cond, ℕ, ◌+◌, Some, None, is_err, Float}
 use Rattle.bisection.specs.Walk.{walk_of, half_step_of}
 use Rattle.curve.specs.declared.curve.Curve.{Curve}
 use Rattle.frame.specs.declared.frame.View.{View}
 use Rattle.overlap.specs.declared.subcurve.Subcurve.{Subcurve}
 use Rattle.overlap.specs.Subcurve.{low_half, high_half}
 use Rattle.overlap.specs.Thrown.{is_thrown}
-use Rattle.leaf.specs.declared.leaf.Leaf.{Leaf}
-use Rattle.leaf.specs.declared.leaf.Leaf.TheVariants.{Passes, Fails, NoFrame}
-use Rattle.leaf.specs.Leaf.{leaf_of}
+use Rattle.leaf.specs.declared.leaf.Met.{Met}
+use Rattle.leaf.specs.Leaf.{Leaf, leaf_of}
 use Rattle.walk.specs.declared.rule.Rule.{Rule}
 use Rattle.walk.specs.declared.walk.Reached.{Reached}
 use Rattle.walk.specs.Rule.{is_counted, is_better, ends}
@@ -20,14 +19,16 @@ entered r = record { leaf = r.leaf; looked = r.looked + 1 }
 module _ (rule : Rule) where
   -- a leaf with a frame, at this distance, takes the place of the one before
   unfoldable pub takes_place : Float → Leaf → Bool
-  takes_place t (Passes at f) = is_better rule t at.t
-  takes_place t Fails = is_counted rule t
-  takes_place t (NoFrame k earlier) = is_better rule t earlier
+  takes_place t (Some m) = is_better rule t m.at.t
+  takes_place t None = is_counted rule t
+
+  -- a leaf that passes takes it: one with no frame wherever it counts
+  unfoldable pub is_taken : Met → Leaf → Bool
+  is_taken m before = cond (is_err m.frame) (is_counted rule m.at.t) (takes_place m.at.t before)
 
   unfoldable pub later : Leaf → Leaf → Leaf
-  later (Passes at f) before = cond (takes_place at.t before) (Passes at f) before
-  later Fails before = before
-  later (NoFrame k t) before = cond (is_counted rule t) (NoFrame k t) before
+  later (Some m) before = cond (is_taken m before) (Some m) before
+  later None before = before
 
   unfoldable pub settled : Leaf → Reached → Reached
   settled l r = record { leaf = later l r.leaf; looked = r.looked }

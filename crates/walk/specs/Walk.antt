@@ -1,5 +1,5 @@
 -- What a walk comes to, by the leaves and not by the steps: which leaf decides by the rule, and how many subcurves are looked at. Definitions only.
-use Rattle.std.specs.Prelude.{◌≡◌, ℕ, Result, Ok, Err}
+use Rattle.std.specs.Prelude.{◌≡◌, ℕ, None, Result, Ok, Err}
 use Rattle.std.proofs.Math.Option.{Option}
 use Rattle.limits.specs.declared.refusal.Refusal.{Refusal}
 use Rattle.bisection.specs.Below.{or_else, at_or}
@@ -10,9 +10,7 @@ use Rattle.frame.specs.declared.frame.View.{View}
 use Rattle.overlap.specs.declared.subcurve.Subcurve.{Subcurve}
 use Rattle.overlap.specs.Depth.{depth_of}
 use Rattle.overlap.specs.Subcurve.{whole_of, low_half, high_half}
-use Rattle.leaf.specs.declared.leaf.Leaf.{Leaf}
-use Rattle.leaf.specs.declared.leaf.Leaf.TheVariants.{Fails}
-use Rattle.leaf.specs.Leaf.{leaf_of}
+use Rattle.leaf.specs.Leaf.{Leaf, leaf_of}
 use Rattle.walk.specs.declared.rule.Rule.{Rule}
 use Rattle.walk.specs.declared.walk.Reached.{Reached}
 use Rattle.walk.specs.Leaves.{thrown, whole_open, leaf_at}
@@ -29,7 +27,7 @@ module _ (rule : Rule) (c : Curve) (v : View) (s : Subcurve) (d : ℕ) where
 
   -- The answer of the leaf that ends the walk, and where there is none of the best. Where there is none of either no leaf passes.
   unfoldable pub leaf_by : Leaf
-  leaf_by = at_or (leaf_at c v s d) Fails (or_else end_by best_by)
+  leaf_by = at_or (leaf_at c v s d) None (or_else end_by best_by)
 
   -- how many subcurves of all levels are open and start no later than the end
   unfoldable pub count_by : ℕ

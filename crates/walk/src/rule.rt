@@ -3,7 +3,7 @@ ghost use Rattle.std.specs.Prelude.{◌≡◌};
 ghost use Rattle.walk.specs.Rule.{is_counted, is_better, ends};
 ghost use Rattle.walk.specs.Steps.{takes_place, later};
 
-use leaf::Leaf;
+use leaf::{Leaf, Met};
 
 // `Last`: the last leaf that passes, and the walk ends at one with no frame or at distance zero.
 // `Nearest`: the nearest leaf that passes, the first of those as near, and the walk ends at one with no frame. A leaf at
@@ -45,12 +45,12 @@ impl Rule {
         ensures { result ≡ ends self l.now }
     {
         match l {
-            Leaf::Passes(at, _) => match self {
+            Some(Met { at, frame: Ok(_) }) => match self {
                 Rule::Last => at.t == 0.0,
                 Rule::Nearest => false,
             },
-            Leaf::Fails => false,
-            Leaf::NoFrame(_, t) => self.is_counted(*t),
+            Some(Met { at, frame: Err(_) }) => self.is_counted(at.t),
+            None => false,
         }
     }
 
@@ -60,22 +60,21 @@ impl Rule {
         ensures { result ≡ takes_place self t before.now }
     {
         match before {
-            Leaf::Passes(at, _) => self.is_better(t, at.t),
-            Leaf::Fails => self.is_counted(t),
-            Leaf::NoFrame(_, earlier) => self.is_better(t, *earlier),
+            Some(met) => self.is_better(t, met.at.t),
+            None => self.is_counted(t),
         }
     }
 
     // What a leaf's answer makes of the one that decided so far, and whether it ends the walk.
-    #[tactic(auto, using(crate::proofs::Rules::none_ends), unfolding(crate::specs::Steps::later))]
+    #[tactic(auto, using(crate::proofs::Rules::none_ends), unfolding(crate::specs::Steps::later, crate::specs::Steps::is_taken))]
     pub fn settle(self, l: Leaf, so_far: &mut Leaf) -> bool
         ensures decided { so_far.new ≡ later self l so_far.old }
         ensures ended { result ≡ ends self l }
     {
-        let is_taken = match l {
-            Leaf::Passes(at, _) => self.takes_place(at.t, so_far),
-            Leaf::Fails => return false,
-            Leaf::NoFrame(_, distance) => self.is_counted(distance),
+        let Some(met) = l else { return false };
+        let is_taken = match met.frame {
+            Ok(_) => self.takes_place(met.at.t, so_far),
+            Err(_) => self.is_counted(met.at.t),
         };
         if is_taken {
             *so_far = l;

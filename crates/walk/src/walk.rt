@@ -12,7 +12,7 @@ use leaf::{Leaf, SeenCurve};
 use limits::Refusal;
 use overlap::{HALF, PaddedSubcurve, Subcurve, WHOLE, max_depth, whole};
 
-// What a walk has come to: the answer of the leaf that decides so far, `Fails` where none passed, and how many subcurves
+// What a walk has come to: the answer of the leaf that decides so far, `None` where none passed, and how many subcurves
 // were entered.
 #[derive(Clone, Copy, Debug, PartialEq)]
 pub struct Reached {
@@ -67,7 +67,7 @@ fn walk_whole(seen: &SeenCurve<'_>, s: Subcurve, rule: Rule, reached: &mut Reach
     ensures { reached.new ≡ reached_by rule seen.now.curve.now seen.now.view s (depth_of seen.now.curve.now s.cp) }
 {
     *reached = Reached {
-        leaf: Leaf::Fails,
+        leaf: None,
         looked: 0,
     };
     let whole = PaddedSubcurve::from(s);

@@ -8,12 +8,14 @@ returns-in_err-walk_aimed c =
     let h = rw c.in_err-walk_aimed.was at (along_replied _ c.args.flip _ _ _ c.walk_aimed.ensures) in
     search (rules, h)
 
-pub returns-in-Passes : goal.returns-in-Passes
-returns-in-Passes c =
-    rw (c.in_ok-walk_aimed.was, c.in-Passes.is, ← c.record_at-record.ensures) at (along_replied _ c.args.flip _ _ _ c.walk_aimed.ensures)
+pub returns-in_default : goal.returns-in_default
+returns-in_default c = rw (c.in_ok-walk_aimed.was, c.in_default.is) at (along_replied _ c.args.flip _ _ _ c.walk_aimed.ensures)
 
-pub returns-in-Fails : goal.returns-in-Fails
-returns-in-Fails c = rw (c.in_ok-walk_aimed.was, c.in-Fails.is) at (along_replied _ c.args.flip _ _ _ c.walk_aimed.ensures)
+pub returns-in_err-met : goal.returns-in_err-met
+returns-in_err-met c =
+    let h = rw (c.in_ok-walk_aimed.was, c.in-Some.is, c.in_err-met.was) at (along_replied _ c.args.flip _ _ _ c.walk_aimed.ensures) in
+    search (rules, h)
 
-pub returns-in-NoFrame : goal.returns-in-NoFrame
-returns-in-NoFrame c = rw (c.in_ok-walk_aimed.was, c.in-NoFrame.is) at (along_replied _ c.args.flip _ _ _ c.walk_aimed.ensures)
+pub returns : goal.returns
+returns c =
+    rw (c.in_ok-walk_aimed.was, c.in-Some.is, c.in_ok-met.was, ← c.record_at-record.ensures) at (along_replied _ c.args.flip _ _ _ c.walk_aimed.ensures)

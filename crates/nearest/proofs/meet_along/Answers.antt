@@ -1,8 +1,8 @@
--- The leaf that decides passes. Assumes nothing.
+-- The leaf that decides has a frame. Assumes nothing.
 use Rattle.nearest.specs.Nearest.{leaf_answer}
 use Rattle.nearest.proofs.Curves.{walked}
 use Rattle.nearest.proofs.meet_along.Goals as goal
 
-pub returns-in-Passes : goal.returns-in-Passes
+pub returns : goal.returns
 unfolding leaf_answer
-returns-in-Passes c = rw c.record_at.ensures (rw c.in-Passes.is at (walked _ c.args.flip c.args.k _ _ c.in_ok-walk_aimed.ensures))
+returns c = rw c.record_at.ensures (rw (c.in-Some.is, c.in_ok-met.was) at (walked _ c.args.flip c.args.k _ _ c.in_ok-walk_aimed.ensures))
