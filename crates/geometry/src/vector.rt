@@ -179,8 +179,8 @@ fn squared(x: f32, y: f32, z: f32) -> Crossed
 }
 
 // The cross product of two vectors by their parts, which stay in registers: a vector that is handed over in memory
-// and read whole right after it was written by parts costs more than the products. One test finds whether a NaN is among
-// them; a number is widened without one.
+// and read whole right after it was written by parts costs more than the products (7 % of a hit's time, docs/PERFORMANCE.md).
+// One test finds whether a NaN is among them; a number is widened without one.
 fn cross_parts(ax: f32, ay: f32, az: f32, bx: f32, by: f32, bz: f32) -> Crossed
     ensures { result ≡ crossed_of (vector_of ax ay az) (vector_of bx by bz) }
 {
