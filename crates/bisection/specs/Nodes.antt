@@ -1,5 +1,5 @@
 -- The nodes of a thing that is cut in two again and again, by level and number. Definitions only, for any kind of node and any test.
--- Level k has the nodes (k, 0) to (k, 2 ^ k - 1). The nodes of the last level d are the leaves (01: slivers). The node (k, j) holds the leaves from
+-- Level k has the nodes (k, 0) to (k, 2 ^ k - 1). The nodes of the last level d are the leaves, a curve's slivers. The node (k, j) holds the leaves from
 -- j * 2 ^ (d - k) on, and starts there.
 use Rattle.std.specs.Prelude.{Bool, true, false, not, ◌&&◌, ℕ, zero, suc, ◌-◌, ◌*◌, ◌/◌, ◌%◌, ◌^◌, leb, eqb}
 use Rattle.std.proofs.Math.Option.{Option, none, some}

@@ -89,7 +89,7 @@ pub record Decided (c : Curve) (ray : Ray) (flip : Bool) (v : View) (whole : Sub
   pub stop_is : FirstIs c v whole d (stop_of c v whole d)
   -- "the last open sliver that passes"
   pub last_is : LastIs c v whole d (last_of c v whole d)
-  -- "The call refuses exactly when there is a stop and it has no frame, by the number .. that 01 gives that sliver."
+  -- "The call refuses exactly when there is a stop and it has no frame, by the number .." of why that sliver has none
   pub refuses : (k : Refusal) → (answer ≡ Err k) ↔ StopsWith c v whole d k
   -- "14, 15 or 16"
   pub number : (k : Refusal) → answer ≡ Err k → (14 ≤ number_of k) × (number_of k ≤ 16)

@@ -18,7 +18,8 @@ use walk::{Reached, Rule, walk_aimed};
 // A hit with its record, and the number of its curve in the list, from 0.
 pub type Hit = (SurfaceInteraction, usize);
 
-// The nearest crossing of a curve, as number k of a list.
+// The nearest crossing of a curve, as number k of a list. With `intersect_along` of the crate intersect it shares `walk_aimed`:
+// the answers differ, since that one tells the count, with a miss too, and this one the curve's number.
 #[tactic(auto, unfolding(crate::specs::Nearest::framed_answer, crate::specs::Nearest::leaf_answer))]
 fn meet_along(curve: &CurveRef<'_>, flip: bool, a: Aim, k: usize) -> Result<Option<Hit>, Refusal>
     ensures { result ≡ framed_answer curve.now flip k (framed_along curve.now a) }

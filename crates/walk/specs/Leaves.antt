@@ -1,6 +1,6 @@
--- The subcurves of a curve in the ray's frame (01: the pieces of the walk), by level and number. Definitions only.
+-- The subcurves of a curve in the ray's frame, the pieces of the walk, by level and number. Definitions only.
 -- Level k has the subcurves (k, 0) to (k, 2 ^ k - 1): the whole is (0, 0), and (k + 1, j) is a half of (k, j / 2), the half at umin where j is even.
--- The subcurves of level d are the leaves (01: slivers). Which are open and what a leaf answers follows from the curve, the view and the whole alone.
+-- The subcurves of level d are the leaves, the slivers. Which are open and what a leaf answers follows from the curve, the view and the whole alone.
 use Rattle.std.specs.Prelude.{Bool, not, ℕ}
 use Rattle.bisection.specs.Nodes.{node, is_open}
 use Rattle.curve.specs.declared.curve.Curve.{Curve}
