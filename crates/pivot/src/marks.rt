@@ -51,6 +51,15 @@ impl<const TURN: usize> Marks<TURN> {
     }
 }
 
+// Any four numbers.
+impl From<[usize; 4]> for Marks<LATER> {
+    ghost from_gives = { λ taken m. m ≡ taken };
+
+    fn from(taken: [usize; 4]) -> Marks<LATER> {
+        Marks { taken }
+    }
+}
+
 impl Marks<LATER> {
     // After the first turn, which takes a column.
     pub fn after(col: Line) -> Marks<LATER>
@@ -58,7 +67,7 @@ impl Marks<LATER> {
     {
         let mut taken = [0; 4];
         taken[col.at()] = 1;
-        Marks { taken }
+        Marks::from(taken)
     }
 
     // A turn takes a column.
