@@ -7,19 +7,23 @@ use native.Mathlib.Nat.{not-suc-le-zero, le_of_suc-le-suc, le_refl, le_trans, le
 use native.Mathlib.Numerals.{add-one}
 use native.Mathlib.Omega.{arith}
 use lib.Ieee.{Float, nan}
+use lib.Dec.{lit≤}
 use lib.ListN.{length, get_or, set, take, drop, length-take, length-drop}
 use lib.Seq.{paste, paste-suc, take_all}
 use borrow.Rule.Slice.PartMut.{put_mid}
 use Rattle.std.proofs.lemmas.List.{drop_all}
 use Rattle.std.proofs.lemmas.Slice.{put_mid-paste}
 use Rattle.std.specs.Prelude.{Some, None}
+use Rattle.geometry.specs.Ray.{ray_floats}
 use Rattle.limits.specs.List.{over, up_to}
 use Rattle.limits.proofs.Lists.{over_next, over-length, paste_over}
+use Rattle.text.specs.Ascii.{ascii}
 use Rattle.text.specs.Bytes.{byte_is, is_word}
 use Rattle.grammar.specs.Grammar.{right, float_size, separator, float_stands, is_row, row_size, float_at, floats_at, row_at, row_key, row_floats, row_line, row_stands, floats_in}
 use Rattle.grammar.specs.declared.reader.Line.{Line}
 use Rattle.grammar.specs.declared.reader.Reader.{Reader}
 use Rattle.grammar.specs.declared.reader.Row.{Row}
+use Rattle.grammar.specs.declared.reader.Row.TheVariants as row
 
 pub length-floats : (l : List ℕ) (at n : ℕ) → length (floats_at l at n) ≡ n
 unfolding floats_at
@@ -57,6 +61,12 @@ floats_put l at d x n i e f h =
 
 pub float_told : (l : List ℕ) (at n i from b : ℕ) (r : Bool) → from ≡ at + i * float_size → b ≡ separator n i → r ≡ (is_word l from && byte_is l (from + 8) b) → float_stands l at n i ≡ r
 float_told l at n i from b r e f g = rw (← e, ← f) (sym g)
+
+-- a row has few floats, and a short key
+pub row_small : (row : Row) → (row_floats row ≤ ray_floats) × (length (row_key row) ≤ 20)
+unfolding ascii
+row_small row.Point = (lit≤ tt, lit≤ tt)
+row_small row.Beam = (lit≤ tt, lit≤ tt)
 
 -- ---- a row that was taken
 
