@@ -9,6 +9,7 @@ use borrow.Author.Tests.{eq-eqb, ne_eqb}
 use lib.Dec.{eqb, lit<}
 use lib.Pow.{pow_mono}
 use Rattle.curve.specs.Layout.{floats}
+use Rattle.create.specs.Basis.{stride_of}
 use Rattle.create.specs.Create.{segment_count, part_count}
 
 pub segment-count-le : (n degree basis : ℕ) → segment_count n degree basis ≤ n
@@ -56,3 +57,12 @@ within-points i n k x length h l = omega (arith, one_more i n k h)
 -- what it writes is within the list
 pub within-list : (i n parts length : ℕ) → i < n → floats * (n * parts) ≤ length → i * (parts * floats) + parts * floats ≤ length
 within-list i n parts length h l = le_trans (one_more i n (parts * floats) h) (subst (λ (x : ℕ). x ≤ length) (mul_comm floats (n * parts) ∙ mul_assoc n parts floats) l)
+
+-- the next one starts no later than it ends
+pub stride-le : (degree basis : ℕ) → stride_of degree basis ≤ 3 * degree + 3
+unfolding stride_of
+stride-le degree basis = go (eqb basis 0)
+  where
+    go : (b : Bool) → cond b (3 * degree) 3 ≤ 3 * degree + 3
+    go true = omega arith
+    go false = omega arith

@@ -14,7 +14,7 @@ use Rattle.geometry.specs.Ray.{ray_from}
 use Rattle.matrix.specs.declared.Matrix4x4.{Matrix4x4}
 use Rattle.matrix.specs.Matrix.{matrix_from}
 use Rattle.limits.specs.declared.refusal.Refusal.{Refusal}
-use Rattle.limits.specs.Refused.{number_of, first_of, told, status_of}
+use Rattle.limits.specs.Refused.{number_of, first_of, told_by, status_of}
 use Rattle.limits.proofs.Told.{number-positive}
 use Rattle.interaction.specs.declared.SurfaceInteraction.{SurfaceInteraction}
 use Rattle.create.specs.Create.{curve_count, create_refusals, created_of}
@@ -46,24 +46,25 @@ answered (Ok a) e = (a, refl)
 answered (Err reason) e = let p = number-positive reason in absurd (omega arith)
 
 -- what is told by a table of refusals
-pub told-answers : {A : Type 0} (reason : Option Refusal) (a : A) → status_of (told reason (Ok a)) ≡ 0 → told reason (Ok a) ≡ Ok a
-told-answers None a e = refl
-told-answers (Some r) a e = let p = number-positive r in absurd (omega arith)
+pub told-answers : {A : Type 0} (status : A → ℕ) (refused : Refusal → A) → ((reason : Refusal) → status (refused reason) ≡ number_of reason)
+    → (reason : Option Refusal) (x : A) → status (told_by refused reason x) ≡ 0 → told_by refused reason x ≡ x
+told-answers status refused h None x e = refl
+told-answers status refused h (Some reason) x e = absurd (omega (arith, h reason, number-positive reason))
 
 pub create-answers : (l : List Float) (p : Params) (room : ℕ) → status_of (created_of l p room) ≡ 0 → created_of l p room ≡ Ok (curve_count (length l / 3) p)
 unfolding created_of
-create-answers l p room = told-answers (first_of (create_refusals l p room)) (curve_count (length l / 3) p)
+create-answers l p room = told-answers status_of Err (λ reason. refl) (first_of (create_refusals l p room)) (Ok (curve_count (length l / 3) p))
 
 pub object_bound_answers : (l : List Float) → status_of (object_bound l) ≡ 0 → object_bound l ≡ Ok (bound_of (curve_from l))
 unfolding object_bound
-object_bound_answers l = told-answers (first_of (lent_refusals l)) (bound_of (curve_from l))
+object_bound_answers l = told-answers status_of Err (λ reason. refl) (first_of (lent_refusals l)) (Ok (bound_of (curve_from l)))
 
 pub world_bound_answers : (l : List Float) (m : Matrix4x4) → status_of (world_bound l m) ≡ 0 → (b : Bounds3f) × (world_bound l m ≡ Ok b)
 world_bound_answers l m = answered (world_bound l m)
 
 pub area-answers : (l : List Float) → status_of (area_in l) ≡ 0 → area_in l ≡ Ok (area_of (curve_from l))
 unfolding area_in
-area-answers l = told-answers (first_of (lent_refusals l)) (area_of (curve_from l))
+area-answers l = told-answers status_of Err (λ reason. refl) (first_of (lent_refusals l)) (Ok (area_of (curve_from l)))
 
 pub price-answers : (l : List Float) (rate : ℕ) → status_of (price_in l rate) ≡ 0 → (n : ℕ) × (price_in l rate ≡ Ok n)
 price-answers l rate = answered (price_in l rate)

@@ -1,4 +1,4 @@
--- The whole-number root: what `isqrt n` is (`isqrt_is`), and its order. Assumes nothing.
+-- The whole-number root: what `isqrt n` is (`isqrt_is`), that nothing else is (`isqrt-only`), and its order. Assumes nothing.
 use Rattle.std.proofs.Common.{◌≡◌, ℕ, suc, ◌+◌, ◌*◌, ◌<◌, ◌≤◌, le_trans, le_of_suc-le-suc, mul_assoc, suc-mul, mul_comm, mul-le-mul, lt_of_not-le, mul-suc, not-le_of_lt, mul_left_comm, arith}
 use lib.Ieee.Root.{whole_part}
 use Rattle.float.specs.Root.{isqrt}
@@ -24,6 +24,10 @@ isqrt-ge n x h = le_of_suc-le-suc (lt_of_not-le (λ (g : suc (isqrt n) ≤ x). n
 
 pub isqrt-lt : (n x : ℕ) → n < x * x → isqrt n < x
 isqrt-lt n x h = lt_of_not-le (λ (g : x ≤ isqrt n). not-le_of_lt h (le_trans (mul-le-mul g g) (isqrt_is n).0))
+
+-- no other number is the root
+pub isqrt-only : (n r : ℕ) → Root n r → r ≡ isqrt n
+isqrt-only n r h = omega (arith, isqrt-ge n r h.0, isqrt-lt n (r + 1) h.1)
 
 pub square_suc : (x : ℕ) → suc x * suc x ≡ x * x + (2 * x + 1)
 square_suc x = omega (arith, suc-mul x (suc x), mul-suc x x)

@@ -1,14 +1,14 @@
 -- The rounding of a whole-number root, for either format: `root_at` of m * 2 ^ t is `root_digits` of its last digit. Assumes nothing.
 -- For n = c * 4 ^ j the root of n, cut, begins with the prec + 1 digits of q = isqrt c. The rounded root is half of q, rounded up: c is even, so where q is odd its square is no c, and there is more behind it.
-use Rattle.std.proofs.Common.{◌≡◌, ℕ, zero, suc, ◌+◌, ◌-◌, ◌*◌, ◌/◌, ◌%◌, ◌^◌, ◌<◌, ◌≤◌, false, sym, ap, ◌∙◌, subst, le_trans, le_of_eq, lt_of_lt_of_le, lt_of_le_of_lt, lt_irrefl, mul-le-mul_right, mul_assoc, mul_comm, add-mul, mul-le-mul, mul-lt-mul_of_pos_right, one-mul, div-add-mod', mul-one, mul-suc, mul-add, mul_left_comm, arith, lit≤, pow_pos, pow_mono, pow-add}
+use Rattle.std.proofs.Common.{◌≡◌, ℕ, zero, suc, ◌+◌, ◌-◌, ◌*◌, ◌/◌, ◌%◌, ◌^◌, ◌<◌, ◌≤◌, false, not, T, sym, ap, ◌∙◌, subst, le_trans, le_of_eq, lt_of_lt_of_le, lt_of_le_of_lt, lt_irrefl, mul-le-mul_right, mul_assoc, mul_comm, add-mul, mul-le-mul, mul-lt-mul_of_pos_right, one-mul, div-add-mod', mul-one, mul-suc, mul-add, mul_left_comm, arith, lit≤, pow_pos, pow_mono, pow-add}
 use native.Mathlib.Nat.{pow-succ'}
-use lib.Ieee.{Format, binary32, binary64, prec, emax, low, hid, units}
+use lib.Ieee.{Format, binary32, binary64, prec, emax, low, hid, is_nan, units}
 use lib.Bits.{shifted_even}
 use lib.Ieee.Nearest.{closest}
 use Rattle.float.specs.Root.{isqrt, root_at}
 use Rattle.float.proofs.Closest.{closest_cut}
 use Rattle.float.proofs.Isqrt.{isqrt_is, isqrt-ge, isqrt-lt, double, square_suc}
-use Rattle.float.proofs.Pattern.{join, twice_hid, round_by}
+use Rattle.float.proofs.Pattern.{join, twice_hid, round_by, round_no_nan}
 use Rattle.float.proofs.Shapes.{raised}
 
 -- ---- squares
@@ -167,3 +167,8 @@ module _ (f : Format) (m t : ℕ) (lo : hid f ≤ m) (hi : m < 2 ^ prec f) (L : 
 
   pub root-at : root_at f (m * 2 ^ t) ≡ units f false (root_digits f m t) (dropped f t)
   root-at = ap (root_at f) (sym parts) ∙ root_units f c half radicand_even radicand_ge radicand_lt room ∙ ap (units f false (root_digits f m t)) one_more
+
+-- a root is no NaN
+pub root_no_nan : (f : Format) (n : ℕ) → T (not (is_nan (root_at f n)))
+unfolding root_at
+root_no_nan f n = round_no_nan f false (isqrt n) (2 ^ low f)

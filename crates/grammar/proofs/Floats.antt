@@ -7,6 +7,7 @@ use native.Mathlib.Nat.{add-zero, not-suc-le-zero, le_of_suc-le-suc, le_refl, le
 use native.Mathlib.Numerals.{add-one}
 use native.Mathlib.Omega.{arith}
 use lib.Ieee.{Float, nan}
+use lib.Dec.{lit≤}
 use lib.ListN.{length, get_or, set, take, drop, length-take, length-drop}
 use lib.Seq.{paste, paste-suc, take_all}
 use borrow.Rule.Slice.PartMut.{put_mid}
@@ -14,14 +15,17 @@ use Rattle.std.proofs.lemmas.List.{drop_all}
 use Rattle.std.proofs.lemmas.Slice.{put_mid-paste}
 use Rattle.std.specs.List.{list_all, range_with_len}
 use Rattle.std.specs.Prelude.{Some, None}
+use Rattle.geometry.specs.Ray.{ray_floats}
 use Rattle.limits.specs.Below.{all_below}
 use Rattle.limits.specs.List.{over, up_to}
 use Rattle.limits.proofs.Lists.{over_next, over-length, paste_over}
+use Rattle.text.specs.Ascii.{ascii}
 use Rattle.text.proofs.Places.{all_below-first}
 use Rattle.grammar.specs.Grammar.{right, float_size, is_row, row_size, float_at, floats_at, row_at, row_key, row_floats, row_line, row_stands, floats_in}
 use Rattle.grammar.specs.declared.reader.Line.{Line}
 use Rattle.grammar.specs.declared.reader.Reader.{Reader}
 use Rattle.grammar.specs.declared.reader.Row.{Row}
+use Rattle.grammar.specs.declared.reader.Row.TheVariants as row
 
 pub length-floats : (l : List ℕ) (at n : ℕ) → length (floats_at l at n) ≡ n
 unfolding floats_at
@@ -68,6 +72,12 @@ all_from P a (suc n) =
 
 pub all_in_range : (P : ℕ → Bool) (n : ℕ) → list_all P (range_with_len 0 n) ≡ all_below n P
 all_in_range P n = all_from P 0 n ∙ ap (all_below n) (fun_ext (λ k. ap P (zero-add k)))
+
+-- a row has few floats, and a short key
+pub row_small : (row : Row) → (row_floats row ≤ ray_floats) × (length (row_key row) ≤ 20)
+unfolding ascii
+row_small row.Point = (lit≤ tt, lit≤ tt)
+row_small row.Beam = (lit≤ tt, lit≤ tt)
 
 -- ---- a row that was taken
 

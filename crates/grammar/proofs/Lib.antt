@@ -1,3 +1,4 @@
 pub mod Floats
 pub mod Heads
+pub mod Lines
 pub mod Runs

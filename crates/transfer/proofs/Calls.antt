@@ -1,12 +1,12 @@
 -- What a call does to a transfer: it stays within its bytes, and where it can go on it comes nearer to its end. Assumes nothing.
-use Rattle.std.proofs.Common.{◌≡◌, ℕ, zero, suc, ◌+◌, ◌-◌, ◌*◌, ◌≤◌, ◌<◌, Bool, true, false, not, ◌&&◌, cond, ltb, eqb, List, [], ◌∷◌, length, drop, pos, refl, sym, ◌∙◌, arith}
+use Rattle.std.proofs.Common.{◌≡◌, ℕ, zero, suc, ◌+◌, ◌-◌, ◌*◌, ◌≤◌, ◌<◌, Bool, true, false, not, ◌&&◌, cond, ltb, eqb, List, [], ◌∷◌, length, drop, ℤ, pos, negsuc, refl, sym, ap, ◌∙◌, arith}
 use Rattle.std.specs.Prelude.{Result, Ok, Err, IfOk, is_ok}
 use Rattle.std.specs.declared.io.Error.{Error}
 use Rattle.std.specs.declared.io.ErrorKind.{ErrorKind}
 use Rattle.std.specs.Io.{ReadsAtMost, WritesAtMost}
 use Rattle.std.specs.IoError.{error_kind, kind_in, os_error_kinds, os_error_kind}
 use mathlib.Core.Bool.{and-eq-true_iff, true≢false}
-use borrow.Author.Tests.{ltb-true, ltb-false, le-ltb, eqb-true, not-true}
+use borrow.Author.Tests.{ltb-true, ltb-false, le-ltb, eqb-true, ne_eqb, not-true}
 use Rattle.transfer.specs.declared.Stop.TheVariants.{Interrupted, Failed}
 use Rattle.transfer.specs.declared.Transfer.{Transfer}
 use Rattle.transfer.specs.Transfer.{most_interruptions, is_interruption, stopped_at, interrupted_again, after_failure, after_call, start, Within, Answered, is_due, Reached, at-start, behind_call, Ended}
@@ -119,3 +119,9 @@ by_first code false false false k p q r h = h
 pub is_interruption-os_error_kind : (code : ℕ) → is_interruption (os_error_kind (pos code)) ≡ eqb code 4
 unfolding os_error_kind
 is_interruption-os_error_kind code = rw (le-ltb code 0 (omega arith)) (by_first code _ _ _ _ refl refl refl (none_of (drop 3 os_error_kinds) code refl))
+
+-- and one of any other number is none
+pub no_interruption : (code : ℤ) → (code ≡ pos 4 → ⊥) → is_interruption (os_error_kind code) ≡ false
+unfolding os_error_kind
+no_interruption (pos code) other = is_interruption-os_error_kind code ∙ ne_eqb code 4 (λ e. other (ap pos e))
+no_interruption (negsuc code) other = refl
