@@ -26,7 +26,7 @@ pub const ROOM: usize = MOST_CURVES * FLOATS;
 
 /// What is left of a sheet's report: what was read of the sheet, but for its curves, and the line that is next. The sheet's
 /// numbers are small, and of a report that is printed whole the line behind the last is next (`Sound`).
-#[derive(Clone, Copy)]
+#[derive(Clone, Copy, Debug, PartialEq)]
 pub struct Rest {
     sheet: Result<Sheet, SheetRefusal>,
     next: usize,
@@ -45,7 +45,7 @@ impl Model for Rest {
 }
 
 /// The place behind a block's bytes, and what is left behind it.
-#[derive(Clone, Copy)]
+#[derive(Clone, Copy, Debug, PartialEq)]
 pub struct Block {
     pub end: usize,
     pub rest: Rest,
