@@ -1,5 +1,5 @@
 -- The four turns, one after another, and the exchanges of columns back from the last. Assumes nothing.
-use Rattle.std.proofs.Common.{◌≡◌, refl, sym, ap, ◌∙◌, ℕ, zero, suc, ◌+◌, ◌-◌, ◌≤◌, ◌<◌, List, [], ◌∷◌, set, get_or, add-one, arith}
+use Rattle.std.proofs.Common.{◌≡◌, refl, sym, ap, ◌∙◌, ℕ, zero, suc, ◌+◌, List, [], ◌∷◌, length, ◌++◌, set, get_or, add-one, arith}
 use Rattle.pivot.specs.declared.Pivot.{Pivot}
 use Rattle.pivot.specs.Pivot.{Matrix, none_taken, pivot_of}
 use Rattle.inverse.specs.Inverse.{AtMost, column_taken, turned, swap_columns, inverse_flat}
@@ -35,14 +35,22 @@ pub few : (m : Matrix) (k : ℕ) → AtMost k (before m k).1
 few m zero = none
 few m (suc k) = rw (← add-one k) (after_turn k _ _ _ refl (few m k))
 
--- the columns exchanged for the last i pivots
-abbrev pub back : Matrix → ℕ → Matrix
-back m zero = (before m 4).0
-back m (suc i) = let p = pivot_at m (3 - i) in swap_columns (back m i) p.row p.col
+-- the columns exchanged for each pivot, from the last
+abbrev pub back : Matrix → List Pivot → Matrix
+back m [] = m
+back m (p ∷ ps) = swap_columns (back m ps) p.row p.col
 
-pub back_all : (m : Matrix) → back m 4 ≡ inverse_flat m
+pub back_more : (m : Matrix) (ps : List Pivot) (p : Pivot) → back m (ps ++ p ∷ []) ≡ back (swap_columns m p.row p.col) ps
+back_more m [] p = refl
+back_more m (q ∷ ps) p = ap (λ (n : Matrix). swap_columns n q.row q.col) (back_more m ps p)
+
+pub back_none : (m : Matrix) (ps : List Pivot) → length ps ≡ 0 → back m ps ≡ m
+back_none m [] e = refl
+back_none m (p ∷ ps) e = absurd (omega (arith, e))
+
+pub back_all : (m n : Matrix) (ps : List Pivot) (k : ℕ) → n ≡ (before m k).0 → ps ≡ filled m k → k ≡ 4 → back n ps ≡ inverse_flat m
 unfolding inverse_flat
-back_all m = refl
+back_all m n ps k a b e = ap (λ (n : Matrix). back n ps) a ∙ ap (back (before m k).0) b ∙ ap (λ (i : ℕ). back (before m i).0 (filled m i)) e
 
 -- the first column that is taken has the mark 1
 pub first_taken : (i : List ℕ) (k : ℕ) → i ≡ set none_taken k 1 → i ≡ column_taken none_taken k
@@ -79,13 +87,3 @@ at_more m m0 m1 p i0 i1 ps k h a b d =
       t ∙ ap (λ (l : List ℕ). column_taken l p.col) h.1 ∙ ap (λ (r : Pivot). column_taken (before m k).1 r.col) q ∙ sym (taken_more m k),
       ap (λ (l : List Pivot). set l k p) h.2 ∙ ap (set (filled m k) k) q ∙ sym (filled_more m k),
     )
-
--- back by one pivot more
-pub back_more : (m v v' : Matrix) (ps : List Pivot) (k : ℕ) (d : Pivot) → v ≡ back m (4 - k) → ps ≡ filled m 4 → 0 < k → k ≤ 4
-    → v' ≡ swap_columns v (get_or ps (k - 1) d).row (get_or ps (k - 1) d).col → v' ≡ back m (4 - (k - 1))
-back_more m v v' ps zero d h f a b e = absurd (omega arith)
-back_more m v v' ps (suc zero) d h f a b e = cc
-back_more m v v' ps (suc (suc zero)) d h f a b e = cc
-back_more m v v' ps (suc (suc (suc zero))) d h f a b e = cc
-back_more m v v' ps (suc (suc (suc (suc zero)))) d h f a b e = cc
-back_more m v v' ps (suc (suc (suc (suc (suc k))))) d h f a b e = absurd (omega arith)

@@ -152,7 +152,7 @@ pub fn invert(v: &mut [f32; 16])
         ipiv.take(p.col);
         pivots[k] = p;
     }
-    for k in (0..4).rev() {
-        swap_lines::<COLUMNS>(v, &pivots[k]);
+    for p in pivots.iter().rev() {
+        swap_lines::<COLUMNS>(v, p);
     }
 }

@@ -1,5 +1,5 @@
-use Rattle.std.proofs.Common.{◌≡◌, ◌∙◌, ap, ℕ, arith}
-use Rattle.inverse.proofs.Turns.{before, few, at_one, at_more, back_more, back_all, filled}
+use Rattle.std.proofs.Common.{arith}
+use Rattle.inverse.proofs.Turns.{few, at_one, at_more, back_more, back_none, back_all}
 use Rattle.inverse.proofs.invert.Goals as goal
 
 pub loop-k-init : goal.loop-k-init
@@ -15,18 +15,15 @@ pub loop-k-preserved : goal.loop-k-preserved
 loop-k-preserved c =
     at_more c.args.v.now _ _ _ _ _ _ c.loop-k.k c.loop-k.invariant c.turn-p.ensures.pivot c.turn-p.ensures.left c.take.ensures
 
-pub loop-k-2-init : goal.loop-k-2-init
-loop-k-2-init c =
-    let end : c.loop-k.k ≡ 4 = omega arith in
-    c.loop-k.invariant.0 ∙ ap (λ (k : ℕ). (before c.args.v.now k).0) end
+pub loop-p-init : goal.loop-p-init
+loop-p-init c =
+    let i = c.loop-k.invariant in
+    let all = back_all c.args.v.now c.loop-k.v c.loop-k.pivots c.loop-k.k i.0 i.2 (omega arith) in
+    cc (all, c.iter.ensures.rest, c.rev-p-items.ensures.source, c.into_iter-p-iterator.ensures.into_iter_gives)
 
-pub loop-k-2-preserved : goal.loop-k-2-preserved
-loop-k-2-preserved c =
-    let end : c.loop-k.k ≡ 4 = omega arith in
-    back_more c.args.v.now _ _ _ c.loop-k-2.k _ c.loop-k-2.invariant (c.loop-k.invariant.2 ∙ ap (filled c.args.v.now) end)
-    c.loop-k-2-test.true c.loop-k-2.auto.k c.swap_lines.ensures
+pub loop-p-preserved : goal.loop-p-preserved
+loop-p-preserved c =
+    cc (back_more c.loop-p.v c.next.new.self.iter.rest.now c.in-Some.p.now, c.loop-p.invariant, c.in-Some.ensures.steps, c.swap_lines.ensures)
 
 pub returns : goal.returns
-returns c =
-    let end : c.loop-k-2.k ≡ 0 = omega arith in
-    cc (back_all c.args.v.now, c.loop-k-2.invariant)
+returns c = cc (back_none c.loop-p.v c.loop-p.p-iterator.iter.rest.now c.in-None.ensures.steps.0, c.loop-p.invariant)
