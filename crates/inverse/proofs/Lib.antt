@@ -2,3 +2,4 @@ mod Lines
 mod Reduced
 mod Rows
 mod Taken
+mod Turns

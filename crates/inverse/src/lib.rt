@@ -144,15 +144,15 @@ fn turn<const TURN: usize>(m: &mut [f32; 16], ipiv: &Marks<TURN>) -> Pivot
 pub fn invert(v: &mut [f32; 16])
     ensures { v.new ≡ inverse_flat v.old }
 {
-    let p0 = turn(v, &Marks::none());
-    let mut ipiv = Marks::after(p0.col);
-    let p1 = turn(v, &ipiv);
-    ipiv.take(p1.col);
-    let p2 = turn(v, &ipiv);
-    ipiv.take(p2.col);
-    let p3 = turn(v, &ipiv);
-    swap_lines::<COLUMNS>(v, &p3);
-    swap_lines::<COLUMNS>(v, &p2);
-    swap_lines::<COLUMNS>(v, &p1);
-    swap_lines::<COLUMNS>(v, &p0);
+    let first = turn(v, &Marks::none());
+    let mut ipiv = Marks::after(first.col);
+    let mut pivots = [first; 4];
+    for k in 1..4 {
+        let p = turn(v, &ipiv);
+        ipiv.take(p.col);
+        pivots[k] = p;
+    }
+    for p in pivots.iter().rev() {
+        swap_lines::<COLUMNS>(v, p);
+    }
 }

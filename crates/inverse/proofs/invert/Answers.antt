@@ -1,48 +1,29 @@
-use Rattle.std.proofs.Common.{◌≡◌, ◌+◌, List, ℕ, zero, suc, set, get_or, arith}
-use Rattle.pivot.specs.declared.Pivot.{Pivot}
-use Rattle.pivot.specs.Pivot.{Matrix, none_taken, pivot_of}
-use Rattle.inverse.specs.Inverse.{column_taken, turned, swap_columns, inverse_flat}
-use Rattle.inverse.proofs.Taken.{after_turn, none}
+use Rattle.std.proofs.Common.{arith}
+use Rattle.inverse.proofs.Turns.{few, at_one, at_more, back_more, back_none, back_all}
 use Rattle.inverse.proofs.invert.Goals as goal
 
-joined : (m m1 m2 m3 m4 s3 s2 s1 s0 : Matrix) (p0 p1 p2 p3 : Pivot) (i0 i1 i2 i3 : List ℕ)
-    → i0 ≡ none_taken → p0 ≡ pivot_of m i0 → m1 ≡ turned m p0 → i1 ≡ column_taken none_taken p0.col
-    → p1 ≡ pivot_of m1 i1 → m2 ≡ turned m1 p1 → i2 ≡ column_taken i1 p1.col
-    → p2 ≡ pivot_of m2 i2 → m3 ≡ turned m2 p2 → i3 ≡ column_taken i2 p2.col
-    → p3 ≡ pivot_of m3 i3 → m4 ≡ turned m3 p3
-    → s3 ≡ swap_columns m4 p3.row p3.col → s2 ≡ swap_columns s3 p2.row p2.col
-    → s1 ≡ swap_columns s2 p1.row p1.col → s0 ≡ swap_columns s1 p0.row p0.col → s0 ≡ inverse_flat m
-unfolding inverse_flat
-joined m m1 m2 m3 m4 s3 s2 s1 s0 p0 p1 p2 p3 i0 i1 i2 i3 e a0 b0 d0 a1 b1 d1 a2 b2 d2 a3 b3 e3 e2 e1 e0 = cc
+pub loop-k-init : goal.loop-k-init
+loop-k-init c = at_one _ _ _ _ _ c.none.ensures c.turn-first.ensures.pivot c.turn-first.ensures.left c.after-ipiv.ensures
 
--- the first column that is taken has the mark 1
-first_taken : (i : List ℕ) (k : ℕ) → i ≡ set none_taken k 1 → i ≡ column_taken none_taken k
-unfolding column_taken
-first_taken i zero e = e
-first_taken i (suc zero) e = e
-first_taken i (suc (suc zero)) e = e
-first_taken i (suc (suc (suc zero))) e = e
-first_taken i (suc (suc (suc (suc k)))) e = e
+pub take-requires : goal.take-requires
+take-requires c =
+    let i = c.loop-k.invariant.1 in
+    let most = (few c.args.v.now c.loop-k.k).each c.turn-p.result.col in
+    rw i (omega (arith, most))
 
-later_taken : (i l : List ℕ) (k : ℕ) → i ≡ set l k (get_or l k 0 + 1) → i ≡ column_taken l k
-unfolding column_taken
-later_taken i l k e = e
+pub loop-k-preserved : goal.loop-k-preserved
+loop-k-preserved c =
+    at_more c.args.v.now _ _ _ _ _ _ c.loop-k.k c.loop-k.invariant c.turn-p.ensures.pivot c.turn-p.ensures.left c.take.ensures
 
-pub take-requires-2 : goal.take-requires-2
-take-requires-2 c =
-    let one = after_turn 0 _ _ _ (first_taken _ _ c.after-ipiv.ensures) none in
-    let two = after_turn 1 _ _ _ (later_taken _ _ _ c.take.ensures) one in
-    omega (arith, two.each c.turn-p2.result.col)
+pub loop-p-init : goal.loop-p-init
+loop-p-init c =
+    let i = c.loop-k.invariant in
+    let all = back_all c.args.v.now c.loop-k.v c.loop-k.pivots c.loop-k.k i.0 i.2 (omega arith) in
+    cc (all, c.iter.ensures.rest, c.rev-p-items.ensures.source, c.into_iter-p-iterator.ensures.into_iter_gives)
+
+pub loop-p-preserved : goal.loop-p-preserved
+loop-p-preserved c =
+    cc (back_more c.loop-p.v c.next.new.self.iter.rest.now c.in-Some.p.now, c.loop-p.invariant, c.in-Some.ensures.steps, c.swap_lines.ensures)
 
 pub returns : goal.returns
-returns c =
-    let t0 = c.turn-p0.ensures in
-    let t1 = c.turn-p1.ensures in
-    let t2 = c.turn-p2.ensures in
-    let t3 = c.turn-p3.ensures in
-    let i1 = first_taken _ _ c.after-ipiv.ensures in
-    let i2 = later_taken _ _ _ c.take.ensures in
-    let i3 = later_taken _ _ _ c.take-2.ensures in
-    joined _ _ _ _ _ _ _ _ _ _ _ _ _ _ _ _ _
-    c.none.ensures t0.pivot t0.left i1 t1.pivot t1.left i2 t2.pivot t2.left i3 t3.pivot t3.left
-    c.swap_lines.ensures c.swap_lines-2.ensures c.swap_lines-3.ensures c.swap_lines-4.ensures
+returns c = cc (back_none c.loop-p.v c.loop-p.p-iterator.iter.rest.now c.in-None.ensures.steps.0, c.loop-p.invariant)
