@@ -9,7 +9,7 @@ ghost use Rattle.bezier.specs.Points.{coordinate_number};
 use geometry::lerp;
 
 // Which of a point's floats: the fourth is the one that nothing asks for.
-#[derive(Clone, Copy, Debug, PartialEq, Eq)]
+#[derive(Clone, Copy, Debug, PartialEq, Eq, Hash)]
 pub enum Coordinate {
     X = 0,
     Y = 1,
@@ -58,8 +58,8 @@ pub fn part(p: Axis, umin: f32, umax: f32) -> Axis
     }
 }
 
-// The control points of a half are averages of the whole's, weighted 1 1, 1 2 1 and 1 3 3 1: three formulas, since no loop
-// over the weights adds in their order.
+// The control points of a half are averages of the whole's, weighted 1 1, 1 2 1 and 1 3 3 1: three formulas: a loop
+// over the weights would multiply by 1 as well, and owe that this changes nothing.
 fn average2(a: f32, b: f32) -> f32
     ensures { result ≡ average_at2 a b }
 {
@@ -107,6 +107,7 @@ pub struct Step {
     pub chord: f32,
 }
 
+// Its steps are those of blossom_bezier at u, u, u, as the Rust writes both: what they would share is two of the values.
 pub fn eval_at(p: Axis, u: f32) -> Step
     ensures { result ≡ eval_at p u }
 {

@@ -2,7 +2,6 @@
 // be right.
 ghost use Rattle.std.specs.Prelude.{◌≡◌, ◌≤◌};
 
-use geometry::lerp;
 use limits::Refusal;
 
 #[derive(Clone, Copy, Debug, PartialEq, Eq, Hash)]
@@ -11,6 +10,8 @@ pub enum Degree {
     Cubic = 3,
 }
 
+// A match where a degree or a basis is asked for: as types with a trait, the call would choose among four copies of itself by
+// the same match.
 #[derive(Clone, Copy, Debug, PartialEq, Eq, Hash)]
 pub enum Basis {
     Bezier = 0,
@@ -77,7 +78,6 @@ pub struct Shape {
 }
 
 impl Shape {
-    ghost use Rattle.std.specs.Prelude.{◌*◌, ◌+◌};
     ghost use Rattle.create.specs.Basis.{stride_of};
     ghost use Rattle.create.specs.Create.{segment_count, part_count, curve_count};
     ghost use Rattle.create.specs.Shape.{degree_number, basis_number, params_in};
@@ -107,7 +107,7 @@ impl Shape {
         requires { n ≤ 256 }
         ensures { result ≡ curve_count n (params_in self) }
     {
-        self.segment_count(n) * self.part_count() as usize
+        self.segment_count(n) * usize::from(self.part_count())
     }
 
     // How many floats a segment starts behind the one before: Bezier segments share their end points alone, and a

@@ -70,15 +70,17 @@ fn cubic_in(floats: &[f32; FLOATS]) -> Cubic
 }
 
 #[tactic(auto, unfolding(crate::specs::Layout::curve_from))]
-fn curve_in(floats: &[f32; FLOATS]) -> Curve
-    ensures { result ≡ curve_from floats.now }
-{
-    Curve {
-        cp: cubic_in(floats),
-        width0: floats[WIDTH0],
-        width1: floats[WIDTH1],
-        umin: floats[UMIN],
-        umax: floats[UMAX],
+impl From<&[f32; FLOATS]> for Curve {
+    ghost from_gives = { λ floats c. c ≡ curve_from floats.now };
+
+    fn from(floats: &[f32; FLOATS]) -> Curve {
+        Curve {
+            cp: cubic_in(floats),
+            width0: floats[WIDTH0],
+            width1: floats[WIDTH1],
+            umin: floats[UMIN],
+            umax: floats[UMAX],
+        }
     }
 }
 
@@ -192,15 +194,6 @@ impl CurveRef<'_> {
     }
 }
 
-/// Any sixteen floats, also such that are no curve within the limits.
-impl<'a> From<&'a [f32; FLOATS]> for CurveRef<'a> {
-    ghost from_gives = { λ a c. c ≡ curve_from a.now };
-
-    fn from(floats: &'a [f32; FLOATS]) -> CurveRef<'a> {
-        CurveRef { floats }
-    }
-}
-
 /// The record within the limits that a slice is, or refusal 9.
 #[tactic(auto, unfolding(crate::specs::Curve::lent_refusals, crate::specs::Curve::is_curve, limits::specs::Refused::first_of))]
 impl<'a> TryFrom<&'a [f32]> for CurveRef<'a> {
@@ -216,14 +209,8 @@ impl<'a> TryFrom<&'a [f32]> for CurveRef<'a> {
     #[inline(always)]
     fn try_from(floats: &'a [f32]) -> Result<CurveRef<'a>, Refusal> {
         match <&[f32; FLOATS]>::try_from(floats) {
-            Ok(floats) => {
-                if is_in_limits(curve_in(floats)) {
-                    Ok(CurveRef { floats })
-                } else {
-                    Err(Refusal::Curve)
-                }
-            }
-            Err(_) => Err(Refusal::Curve),
+            Ok(floats) if is_in_limits(Curve::from(floats)) => Ok(CurveRef { floats }),
+            _ => Err(Refusal::Curve),
         }
     }
 }

@@ -2,9 +2,8 @@
 // definition of `specs/`, and no public function asks anything of its caller.
 #![tactic(auto)]
 
-ghost use Rattle.std.specs.Prelude.{◌≡◌, suc, ◌+◌, ◌*◌, ◌/◌, ◌%◌, ◌^◌, ◌<◌, ◌≤◌, from_bits, to_bits};
+ghost use Rattle.std.specs.Prelude.{◌≡◌, from_bits, to_bits};
 ghost use Rattle.std.specs.Float.{binary32};
-ghost use Rattle.std.specs.Float.Ieee.{prec, hid, ones};
 ghost use Rattle.float.specs.Basic.{abs_of, max_of, min_of};
 ghost use Rattle.float.specs.Narrow.{narrow_of, narrow_rest};
 ghost use Rattle.float.specs.Root.{sqrt_of};
@@ -14,7 +13,8 @@ mod rounding;
 use rounding::shift_nearest;
 pub use rounding::{Ties, round_product};
 
-// The value with the bits b. Every pattern of a NaN gives a NaN.
+// The value with the bits b. Every pattern of a NaN gives a NaN. With `to_bits` it is the library's, by the name that callers
+// have: `f32::from_bits` and `f32::to_bits` ask that there is no NaN.
 pub fn of_bits(b: u32) -> f32
     ensures { result ≡ from_bits binary32 b }
 {
@@ -57,7 +57,7 @@ pub fn min(a: f32, b: f32) -> f32
     if a.is_nan() || b < a { b } else { a }
 }
 
-// x at the wider format, which holds every f32. A NaN gives a NaN.
+// x at the wider format, which holds every f32. A NaN gives a NaN. As f64::from, by the name that callers have.
 pub fn widen(x: f32) -> f64
     ensures { result ≡ x }
 {

@@ -56,6 +56,6 @@ const MACHINE_EPSILON: f32 = 5.9604645e-8;
 pub fn gamma(n: u16) -> f32
     ensures { result ≡ gamma_of n }
 {
-    let error = n as f32 * MACHINE_EPSILON;
+    let error = f32::from(n) * MACHINE_EPSILON;
     error / (1.0 - error)
 }

@@ -133,6 +133,8 @@ impl Point3f {
         }
     }
 
+    // With `max` side by side, as the Rust has them: one method over a closure would say its result by the closure's clause, and
+    // be as long.
     pub fn min(self, p: Point3f) -> Point3f
         ensures { result ≡ least_of self p }
     {

@@ -26,7 +26,8 @@ impl Neg for Vector2f {
     }
 }
 
-// Beside those of a Vector3f, and not over an array of two or three: such a sum begins with a zero, which turns -0 into 0.
+// Beside those of a Vector3f: over arrays of two or three they would be a loop that begins with the first product, for three
+// lines.
 impl Vector2f {
     pub fn dot(self, v: Vector2f) -> f32
         ensures { result ≡ dot2 self v }
@@ -148,8 +149,7 @@ impl Vector3f {
     pub fn cross(self, v: Vector3f) -> Vector3f
         ensures { result ≡ cross_of self v }
     {
-        let crossed = self.cross_squared(v);
-        crossed.v
+        self.cross_squared(v).v
     }
 
     pub fn cross_squared(self, v: Vector3f) -> Crossed
@@ -191,6 +191,7 @@ fn cross_parts(ax: f32, ay: f32, az: f32, bx: f32, by: f32, bz: f32) -> Crossed
             minor(ax, by, ay, bx),
         )
     } else {
+        // By `as`, since f64::from tests for a NaN.
         let x1 = ax as f64;
         let y1 = ay as f64;
         let z1 = az as f64;

@@ -26,10 +26,7 @@ pub enum Intersection {
 fn intersect_along(curve: &CurveRef<'_>, flip: bool, a: Aim) -> Result<Intersection, Refusal>
     ensures { result ≡ intersect_framed curve.now flip (framed_along curve.now a) }
 {
-    let mut reached = Reached {
-        leaf: None,
-        looked: 0,
-    };
+    let mut reached = Reached::default();
     walk_aimed(curve, a, Rule::Last, &mut reached)?;
     let Some(met) = reached.leaf else {
         return Ok(Intersection::Miss(reached.looked));

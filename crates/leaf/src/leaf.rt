@@ -114,7 +114,7 @@ pub struct Met {
 pub type Leaf = Option<Met>;
 
 // A curve as a ray sees it: what a walk holds fixed.
-#[derive(Clone, Copy)]
+#[derive(Clone, Copy, Debug)]
 pub struct SeenCurve<'a> {
     pub curve: &'a CurveRef<'a>,
     pub view: View,

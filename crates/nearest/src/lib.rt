@@ -24,10 +24,7 @@ pub type Hit = (SurfaceInteraction, usize);
 fn meet_along(curve: &CurveRef<'_>, flip: bool, a: Aim, k: usize) -> Result<Option<Hit>, Refusal>
     ensures { result ≡ framed_answer curve.now flip k (framed_along curve.now a) }
 {
-    let mut reached = Reached {
-        leaf: None,
-        looked: 0,
-    };
+    let mut reached = Reached::default();
     walk_aimed(curve, a, Rule::Nearest, &mut reached)?;
     let Some(met) = reached.leaf else {
         return Ok(None);

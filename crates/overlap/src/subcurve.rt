@@ -40,7 +40,7 @@ fn middle(u0: f32, u1: f32) -> f32
 
 // A subcurve as a walk lends it to its steps, with the control points as floats, four a point. A clause sees the
 // `Subcurve` that it is.
-#[derive(Drop)]
+#[derive(Debug, Drop)]
 pub struct PaddedSubcurve {
     points: [f32; POINTS],
     u0: f32,

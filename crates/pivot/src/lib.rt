@@ -20,8 +20,8 @@ pub struct Pivot {
     pub col: Line,
 }
 
-// The entry x, which is not taken, after the best so far. A NaN is told apart first, which abs would do anyway: so nothing
-// that follows has to reckon with one.
+// The entry x, which is not taken, after the best so far. A NaN is told apart first: nothing that follows
+// has to reckon with one.
 fn look(best: Pivot, row: Line, col: Line, x: f32) -> Pivot
     ensures { result ≡ look_entry best 0 row col x }
 {

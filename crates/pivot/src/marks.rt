@@ -12,7 +12,7 @@ pub const FIRST: usize = 0;
 pub const LATER: usize = 1;
 
 // The Rust's ipiv before a turn. Contracts see its four numbers, which are zeros before the first.
-#[derive(Clone, Copy)]
+#[derive(Clone, Copy, Debug, PartialEq, Eq, Hash)]
 pub struct Marks<const TURN: usize> {
     taken: [usize; 4],
 }

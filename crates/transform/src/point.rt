@@ -19,30 +19,23 @@ fn project(p: Point3f, w: f32) -> Option<Point3f>
 pub fn transform_point(m: Matrix4x4, p: Point3f) -> Option<Point3f>
     ensures { result ≡ transform_point m p }
 {
-    let xp = row_point(m.r0, p);
-    let yp = row_point(m.r1, p);
-    let zp = row_point(m.r2, p);
-    let wp = row_point(m.r3, p);
     let q = Point3f {
-        x: xp,
-        y: yp,
-        z: zp,
+        x: row_point(m.r0, p),
+        y: row_point(m.r1, p),
+        z: row_point(m.r2, p),
     };
-    project(q, wp)
+    project(q, row_point(m.r3, p))
 }
 
 fn point_error(m: Matrix4x4, p: Point3f) -> Vector3f
     ensures { result ≡ point_error m p }
 {
-    let x_abs_sum = row_point_abs(m.r0, p);
-    let y_abs_sum = row_point_abs(m.r1, p);
-    let z_abs_sum = row_point_abs(m.r2, p);
-    let sum = Vector3f {
-        x: x_abs_sum,
-        y: y_abs_sum,
-        z: z_abs_sum,
+    let abs_sum = Vector3f {
+        x: row_point_abs(m.r0, p),
+        y: row_point_abs(m.r1, p),
+        z: row_point_abs(m.r2, p),
     };
-    sum * geometry::gamma(3)
+    abs_sum * geometry::gamma(3)
 }
 
 // A point with the bound on its error.

@@ -10,7 +10,7 @@ use leaf::{Leaf, Met};
 // a NaN distance does not pass.
 // It is no type parameter: with the walk in the machine's code twice, a beam thrown out takes 4.5 % more instructions, a
 // hit 4 %, and the nearest 5.5 %.
-#[derive(Clone, Copy, Debug, PartialEq, Eq)]
+#[derive(Clone, Copy, Debug, PartialEq, Eq, Hash)]
 pub enum Rule {
     Last,
     Nearest,

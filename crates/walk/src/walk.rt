@@ -14,14 +14,14 @@ use overlap::{HALF, PaddedSubcurve, Subcurve, WHOLE, max_depth, whole};
 
 // What a walk has come to: the answer of the leaf that decides so far, `None` where none passed, and how many subcurves
 // were entered.
-#[derive(Clone, Copy, Debug, PartialEq)]
+#[derive(Clone, Copy, Debug, PartialEq, Default)]
 pub struct Reached {
     pub leaf: Leaf,
     pub looked: u32,
 }
 
 // A curve as a ray sees it, and the rule: what a walk holds fixed.
-#[derive(Clone, Copy)]
+#[derive(Clone, Copy, Debug)]
 struct Walk<'a> {
     seen: SeenCurve<'a>,
     rule: Rule,
