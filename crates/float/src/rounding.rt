@@ -59,8 +59,8 @@ pub fn round_product(x: f32, k: u32, ties: Ties) -> Option<u32>
     ensures { result ≡ product_of ties k x }
 {
     let bits = crate::to_bits(x);
-    let exponent = u64::from(bits % 0x8000_0000 >> 23);
-    let product = u64::from(bits % 0x80_0000 + 0x80_0000) * u64::from(k);
+    let exponent = (bits % 0x8000_0000 >> 23) as u64;
+    let product = (bits % 0x80_0000 + 0x80_0000) as u64 * k as u64;
     match exponent {
         // less than a half
         0..=93 => Some(0),

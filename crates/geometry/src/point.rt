@@ -1,10 +1,10 @@
 // Points: they go by component, as vectors do.
-#![tactic(auto, unfolding(crate::specs::Point::point_from, crate::specs::Point::difference2, crate::specs::Point::plus, crate::specs::Point::moved, crate::specs::Point::difference, crate::specs::Point::point_scaled, crate::specs::Point::point_divided, crate::specs::Point::least_of, crate::specs::Point::greatest_of, crate::specs::Point::point_lerp, crate::specs::Point::points_equal))]
+#![tactic(auto, unfolding(crate::specs::Point::point_from, crate::specs::Point::difference2, crate::specs::Point::plus, crate::specs::Point::moved, crate::specs::Point::difference, crate::specs::Point::point_scaled, crate::specs::Point::point_divided, crate::specs::Point::least_of, crate::specs::Point::greatest_of, crate::specs::Point::point_lerp))]
 
 ghost use Rattle.std.specs.Prelude.{◌≡◌, ◌+◌, ◌≤◌, length};
 ghost use Rattle.std.proofs.Common.{rules};
 ghost use Rattle.geometry.specs.Pbrt.{lerp_of};
-ghost use Rattle.geometry.specs.Point.{point_from, difference2, plus, moved, difference, point_scaled, point_divided, least_of, greatest_of, point_lerp, points_equal};
+ghost use Rattle.geometry.specs.Point.{point_from, difference2, plus, moved, difference, point_scaled, point_divided, least_of, greatest_of, point_lerp};
 
 use crate::pbrt::Interpolate;
 use crate::vector::{Vector2f, Vector3f};
