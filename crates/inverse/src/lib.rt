@@ -108,8 +108,8 @@ fn reduce(m: &mut [f32; 16], col: Line)
     }
 }
 
-// A call for each column: in each every index is a constant, and no test of the column is left. An inverse takes 954
-// instructions so, of the 2,392 of a beam thrown out, and 1,106 where `reduce` is given the pivot's column.
+// A call for each column: in each every index is a constant, and no test of the column is left. An inverse takes 928
+// instructions so, and 1,080 where `reduce` is given the pivot's column.
 fn reduce_by_column(m: &mut [f32; 16], col: Line)
     ensures { m.new ≡ reduced m.old col }
 {
