@@ -76,7 +76,7 @@ fn create_curve(list: &mut [f32], at: usize, s: Segment)
     ensures { list.new ≡ over list.old at (part_floats s.cp s.width0 s.width1 s.parts) }
 {
     for i in 0..s.parts {
-        put_curve(list, at + usize::from(i) * FLOATS, part(s, i));
+        put_curve(list, at + i as usize * FLOATS, part(s, i));
     }
 }
 
@@ -97,7 +97,7 @@ fn segment_of(points: &[f32], shape: Shape, n: u16, seg: u16) -> Segment
     ensures written { part_floats result.cp result.width0 result.width1 result.parts ≡ segment_floats points.now (params_in shape) n seg }
 {
     Segment {
-        cp: segment(points, shape, usize::from(seg) * shape.stride()),
+        cp: segment(points, shape, seg as usize * shape.stride()),
         width0: end_width(shape, n, seg),
         width1: end_width(shape, n, seg + 1),
         parts: shape.part_count(),
@@ -109,10 +109,9 @@ fn put_segments(list: &mut [f32], points: &[f32], shape: Shape, n: u16)
     requires room { floats * (n * part_count shape.splitdepth) ≤ length list.old }
     ensures { list.new ≡ over list.old 0 (created_floats points.now (params_in shape) n) }
 {
-    let size = FLOATS * usize::from(shape.part_count());
+    let size = FLOATS * shape.part_count() as usize;
     for seg in 0..n {
-        let at = usize::from(seg) * size;
-        create_curve(list, at, segment_of(points, shape, n, seg));
+        create_curve(list, seg as usize * size, segment_of(points, shape, n, seg));
     }
 }
 
@@ -142,5 +141,5 @@ pub fn create_curve_shape(
     let shape = check(points, p, list.len())?;
     let n = shape.segment_count(points.len() / 3);
     put_segments(list, points, shape, n as u16);
-    Ok(n as u32 * u32::from(shape.part_count()))
+    Ok(n as u32 * shape.part_count() as u32)
 }

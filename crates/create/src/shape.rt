@@ -107,7 +107,7 @@ impl Shape {
         requires { n ≤ 256 }
         ensures { result ≡ curve_count n (params_in self) }
     {
-        self.segment_count(n) * usize::from(self.part_count())
+        self.segment_count(n) * self.part_count() as usize
     }
 
     // How many floats a segment starts behind the one before: Bezier segments share their end points alone, and a
