@@ -261,7 +261,8 @@ class Interrupted(Beltbeam):
         subprocess.run(["cc", "-shared", "-fPIC", "-o", source.with_suffix(".so"), source, "-ldl"], check=True)
 
     def interrupted(self, name: str, often: int, most: int, sheet: bytes) -> subprocess.CompletedProcess:
-        """A run whose calls of that name, or those for standard error, are interrupted so often in a row, and then move at most so many bytes."""
+        """A run whose calls of that name, or those for standard error, are interrupted so often in a row, and then move
+        at most so many bytes."""
         library = str(Path(self.folder.name) / "interrupting.so")
         values = {"LD_PRELOAD": library, "INTERRUPTED": name, "OFTEN": str(often), "MOST": str(most)}
         return beltbeam(sheet, env={**os.environ, **values})

@@ -57,10 +57,9 @@ fn put_met(out: &mut Buffer<'_>, list: &[f32; ROOM], sheet: &Sheet, place: Place
     ensures { Puts out.old out.new (met_text sheet.now.rays list.now sheet.now.reverse place.ray place.piece) }
 {
     let identity = Matrix4x4::default();
-    let curves = &list[..];
     let from = place.piece as usize * FLOATS;
     let met = intersect::intersect(
-        &curves[from..from + FLOATS],
+        &list[from..from + FLOATS],
         identity,
         identity,
         sheet.reverse,
@@ -81,7 +80,7 @@ impl Rest {
         }
     }
 
-    // A line, by its number. That number and a refusal's fit in 32 bits, and no `From` of the library's narrows, so `as` does.
+    // A line, by its number. That number and that of a wrong line fit in 32 bits; `From` does not narrow, so `as` does.
     fn put_line(&self, out: &mut Buffer<'_>, list: &[f32; ROOM], line: usize)
         requires { line < line_count self.now.sheet }
         ensures { Puts out.old out.new (line_text list.now self.now.sheet line) }
@@ -118,8 +117,7 @@ impl Rest {
         self.line_count() - self.next == 0
     }
 
-    // The next lines, as long as there is room for the longest, and what is left behind them. No count ends the loop: lines
-    // differ in their length.
+    // The next lines, as long as there is room for the longest, and what is left behind them.
     fn put_lines(&self, buffer: &mut Buffer<'_>, list: &[f32; ROOM]) -> Rest
         requires { buffer.old.end ≡ 0 }
         ensures same_buffer { buffer.new.bytes.ghost_name ≡ buffer.old.bytes.ghost_name }
@@ -129,14 +127,18 @@ impl Rest {
             → lines_left result < lines_left self.now }
     {
         let count = self.line_count();
-        let mut next = self.next;
-        while next < count && LONGEST <= buffer.room() {
-            self.put_line(buffer, list, next);
-            next += 1;
+        for line in self.next..count {
+            if buffer.room() < LONGEST {
+                return Rest {
+                    sheet: self.sheet,
+                    next: line,
+                };
+            }
+            self.put_line(buffer, list, line);
         }
         Rest {
             sheet: self.sheet,
-            next,
+            next: count,
         }
     }
 

@@ -43,6 +43,7 @@ impl Row {
 }
 
 /// The lines of the head. The number of each is how many lines stand before it.
+// `Field`, `Kind` and `Line` are `pub` for the proofs of the crate above, which name them; no code outside does.
 #[derive(Clone, Copy, Debug, PartialEq, Eq)]
 pub enum Field {
     Degree = 0,
@@ -82,8 +83,7 @@ fn decimal_digit(s: &[u8], i: usize) -> Option<u32>
     ensures small { IfSome result (λ d. d < 10) }
     ensures within { IfSome result (λ _. i < length s.now) }
 {
-    let d = digit_at(s, i)?;
-    if d < 10 { Some(d) } else { None }
+    digit_at(s, i).filter(|d| *d < 10)
 }
 
 // What stands behind float i of n.
@@ -267,8 +267,8 @@ impl<'a> Reader<'a> {
         }
     }
 
-    /// Takes the line of a kind, and then stands behind it; before a wrong one it stays.
-    pub fn take(&mut self, kind: Kind) -> Option<Line>
+    // Takes the line of a kind, and then stands behind it; before a wrong one it stays.
+    pub(crate) fn take(&mut self, kind: Kind) -> Option<Line>
         ensures value { result ≡ line_at self.old.src.now kind self.old.at }
         ensures reader { self.new ≡ reader_after self.old result }
     {
@@ -288,7 +288,8 @@ impl<'a> Reader<'a> {
             ≡ over out.old 0 (floats_from self.old.src.now self.old.at (row_key row) (row_floats row) result) }
     {
         let n = row.floats();
-        // By ranges: of the parts that `chunks_exact_mut` lends a proof knows how long they are, and not what was put into them.
+        // By ranges: of the parts that `chunks_exact_mut` lends a proof knows how long they are, and not what was put into
+        // them.
         for j in 0..most {
             let Some(line) = self.take(Kind::Row(row)) else {
                 return j;

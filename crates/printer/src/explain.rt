@@ -1,6 +1,6 @@
 // Plain sentences on standard error: why a sheet is refused, and that a report is not whole. What follows a write that
-// failed is written all the same. The two texts with a number in them go by std's rule, which tries an interrupted write
-// again for ever, and the others by `Text`'s.
+// failed is written all the same. `line 12: ` and `40 bytes of it are written` go to the writer itself: std's `write!` puts
+// the number's text, and tries an interrupted write again for ever. The others go by `Text`, which gives up.
 use crate::ending::wrong_ending_of;
 use crate::print::Printed;
 use limits::Refusal;

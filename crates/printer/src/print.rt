@@ -52,8 +52,7 @@ fn write_report<W: Write>(out: &mut W, buf: &mut [u8], list: &[f32; ROOM], rest:
     };
     while goes_on(printed, left) {
         let block = left.put_block(buf, list);
-        let end = block.end;
-        printed = write_block(out, printed, &buf[..end]);
+        printed = write_block(out, printed, &buf[..block.end]);
         left = block.rest;
     }
     printed

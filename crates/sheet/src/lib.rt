@@ -111,7 +111,7 @@ fn read_behind(s: &[u8], head: Head, list: &mut [f32]) -> Result<Sheet, SheetRef
     };
     let p = reader.read_rows(Row::Point, ROOM_POINTS, &mut points);
     let n = read_rays(&mut reader, p, &mut rays);
-    let is_whole = (0 < p) & (reader.at == s.len());
+    let is_whole = 0 < p && reader.at == s.len();
     if !is_whole {
         return Err(wrong_line(HEAD_LINES + p + n));
     }

@@ -4,7 +4,8 @@ ghost use Rattle.text.specs.Digits.{digit_char, decimal_text, float_text};
 ghost use Rattle.text.specs.Put.{Puts};
 
 /// A buffer that is lent, and the place behind what was put into it.
-// No writer of std's: what it answers at a full buffer would have to be told apart at each line, and here a text is cut.
+// No writer of std's: it fails at a full buffer, and here a text is cut. No `fmt::Write` of its own: std says what `write!` put
+// where that answers Ok, and never that it does so, not even where each `write_str` does; what is put here cannot fail.
 #[derive(Debug, Drop)]
 pub struct Buffer<'a> {
     pub bytes: &'a mut [u8],

@@ -1,5 +1,6 @@
-// Reading by place in the whole text, as the definitions say it and as a wrong line is told. A place past the end has no byte, so that
-// nothing is asked about it; the rest of a slice from there, `s[at..]`, asks that the place is no further than the end.
+// Reading by place in the whole text, as the definitions say it and as a wrong line is told. A place past the end has no
+// byte, so that nothing is asked about it; the rest of a slice from there, `s[at..]`, asks that the place is no further
+// than the end.
 ghost use Rattle.std.specs.Prelude.{◌≡◌, ◌+◌, ◌<◌, ◌≤◌, max, length, IsTrue, IfSome};
 ghost use Rattle.text.specs.Bytes.{byte_is, stands_at, digit_of, digit_at, word_at};
 

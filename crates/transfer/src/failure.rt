@@ -12,7 +12,7 @@ const ROOM: usize = 256;
 
 // A writer that text goes to by way of `write`, which gives up where calls are interrupted too often in a row. A text
 // ends at a write that fails.
-#[derive(Drop)]
+#[derive(Debug, Drop)]
 pub struct Text<'a, W>(pub &'a mut W);
 
 impl<W: Write> fmt::Write for Text<'_, W> {
@@ -20,10 +20,7 @@ impl<W: Write> fmt::Write for Text<'_, W> {
         × Appends (W.contents s.0.now) (W.contents t.0.now) bytes };
 
     fn write_str(&mut self, s: &str) -> fmt::Result {
-        match write(self.0, s.as_bytes()).outcome {
-            Ok(()) => Ok(()),
-            Err(_) => Err(fmt::Error),
-        }
+        write(self.0, s.as_bytes()).outcome.map_err(|_| fmt::Error)
     }
 }
 
@@ -38,7 +35,7 @@ fn end_of_text(printed: &[u8]) -> usize
 }
 
 // The text of an error's number, which is 0 where the error is not the system's.
-#[derive(Drop)]
+#[derive(Debug, Drop)]
 struct Plain<'a>(&'a io::Error);
 
 impl fmt::Display for Plain<'_> {

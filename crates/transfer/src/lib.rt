@@ -97,6 +97,8 @@ impl Transfer {
                 interrupted: 0,
                 outcome: Ok(()),
             },
+            // Of the system's errors that is number 4 alone (`is_interruption-os_error_kind`); an error of a writer's or a
+            // reader's own may say so too.
             Err(error) if error.kind() == ErrorKind::Interrupted => self.interrupted_again(),
             Err(error) => self.stopped(Stop::Failed(error)),
         }
