@@ -46,7 +46,7 @@ impl Operation for CreateCurveShape {
         out.outcome(created, |out, curves| {
             out.word(curves)?;
             out.word((hash >> 32) as u32)?;
-            out.word((hash % 0x1_0000_0000) as u32)
+            out.word((hash % 0x1_0000_0000) as u32) // the low 32 bits
         })
     }
 }

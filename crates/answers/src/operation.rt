@@ -1,4 +1,5 @@
-// What the oracle has lines of: an operation of the library (oracle/README.md).
+// What the oracle has lines of: an operation of the library (oracle/README.md). Two operations may differ in the function they
+// call alone: with that as a parameter neither is plainer, since each names its file and its inputs.
 use crate::answer::Answer;
 use crate::inputs::Inputs;
 

@@ -10,7 +10,7 @@ use lines::LINE_WORDS;
 // The status of a miss, as the oracle's lines have it.
 const MISSED: u32 = 1;
 
-// What a line has behind its curves, the oracle's cast: under what they are met, as it is of a set of them.
+// What a line has behind its curves, the oracle's cast: the head of a set, as `curve_set` has it.
 fn read_cast(inputs: &mut Inputs<'_>) -> Option<Head> {
     Some(Head {
         object_to_world: inputs.matrix()?,

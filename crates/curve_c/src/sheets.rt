@@ -20,6 +20,7 @@ fn put_reply(
     match reply {
         Ok(sheet) => {
             let reverse = u32::from(sheet.reverse);
+            // By a variable: the borrow checker does not cover an array that is stored straight from a field.
             let rays = sheet.rays;
             *beams = rays;
             *out = [sheet.pieces, reverse, sheet.ray_count as u32, 0];

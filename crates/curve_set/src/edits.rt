@@ -104,6 +104,7 @@ impl SetMut<'_> {
         ensures { self.new ≡ holding self.old (with_best (lent_of self.old)) }
     {
         let word = self.view().best().map_or(0, |p| p as u32 + 1);
+        // By `copy`: after a write by the place a proof has to know that the array is longer, and nothing hands it its length.
         copy(self.words, NEAREST, &[word]);
     }
 

@@ -1,8 +1,10 @@
 // The layout of the two arrays that a set is lent as. specs/Layout has it for the definitions. C lends the arrays apart and
 // keeps what they hold, so a row is a place in both and a kind is a word.
 
-use geometry::Ray;
-use matrix::Matrix4x4;
+use curve::FLOATS;
+use geometry::{RAY_FLOATS, Ray};
+use interaction::RECORD_FLOATS;
+use matrix::{MATRIX_FLOATS, Matrix4x4};
 
 /// What is the same for all curves of a set.
 #[derive(Clone, Copy, Debug, PartialEq)]
@@ -19,21 +21,21 @@ pub const CURVES: usize = 64;
 // The floats begin with both matrices and the ray.
 pub const OBJECT_TO_WORLD: usize = 0;
 
-pub const WORLD_TO_OBJECT: usize = 16;
+pub const WORLD_TO_OBJECT: usize = OBJECT_TO_WORLD + MATRIX_FLOATS;
 
-pub const RAY: usize = 32;
+pub const RAY: usize = WORLD_TO_OBJECT + MATRIX_FLOATS;
 
-pub const HEAD_FLOATS: usize = 40;
+pub const HEAD_FLOATS: usize = RAY + RAY_FLOATS;
 
 // Then, for each curve in the order of adding, its floats, with room for as many as they will be when curves have more, and
 // the record of its nearest crossing.
-pub const CURVE_ROOM: usize = 19;
-
 pub const SPARE: usize = 3;
 
-pub const ROW_FLOATS: usize = 41;
+pub const CURVE_ROOM: usize = FLOATS + SPARE;
 
-pub const SET_FLOATS: usize = 2664;
+pub const ROW_FLOATS: usize = CURVE_ROOM + RECORD_FLOATS;
+
+pub const SET_FLOATS: usize = HEAD_FLOATS + CURVES * ROW_FLOATS;
 
 // The words begin with how many curves there are, the place of the nearest, counted from 1 (0: a miss), and the reverse
 // flag.
@@ -52,7 +54,7 @@ pub const KIND: usize = 2;
 
 pub const ROW_WORDS: usize = 3;
 
-pub const SET_WORDS: usize = 195;
+pub const SET_WORDS: usize = HEAD_WORDS + CURVES * ROW_WORDS;
 
 // What the mark and the kind say. A miss is written as 0, and any other kind but a hit's is one too.
 pub const THIS_RULE: u32 = 0;

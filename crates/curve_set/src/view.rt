@@ -25,7 +25,7 @@ fn nearer(best: Option<(usize, f32)>, p: usize, d: f32) -> Option<(usize, f32)>
 }
 
 /// The two arrays that a caller lends as a set, to be read. No call trusts what it finds there.
-#[derive(Clone, Copy, Debug)]
+#[derive(Clone, Copy, Debug, PartialEq)]
 pub struct Set<'a> {
     pub floats: &'a [f32; SET_FLOATS],
     pub words: &'a [u32; SET_WORDS],

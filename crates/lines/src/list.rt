@@ -4,7 +4,7 @@
 // Fills a list as it is before the call.
 pub fn fill(list: &mut [f32]) {
     for (i, x) in list.iter_mut().enumerate() {
-        let i = (i % 0x1_0000_0000) as u32;
+        let i = (i % 0x1_0000_0000) as u32; // the low 32 bits
         *x = float::of_bits(i.wrapping_mul(2654435761) ^ 0x3f80_0000);
     }
 }

@@ -29,6 +29,7 @@ fn compare_lines<O: Operation, W: Write>(
     for byte in bytes {
         if scan.take(*byte) {
             tally.lines = tally.lines.wrapping_add(1);
+            // A closure: the borrow checker does not cover `holds::<O>` passed by its name.
             if !scan.line().is_some_and(|line| holds::<O>(line)) {
                 tally.differ = tally.differ.wrapping_add(1);
                 scan.print(out);
