@@ -205,7 +205,7 @@ impl<'a> TryFrom<&'a [f32]> for CurveRef<'a> {
 
     ghost try_from_gives = { λ s r. r ≡ told (first_of (lent_refusals s.now)) (Ok (curve_from s.now)) };
 
-    // Where it is called the limits are asked in registers: 60 instructions fewer of an area's 500.
+    // Where it is called the limits are asked in registers: 60 instructions fewer an area.
     #[inline(always)]
     fn try_from(floats: &'a [f32]) -> Result<CurveRef<'a>, Refusal> {
         match <&[f32; FLOATS]>::try_from(floats) {
