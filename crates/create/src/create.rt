@@ -1,4 +1,5 @@
-// create_curve_shape and create_curve: the curves of all segments, into a lent list.
+// create_curve_shape and create_curve: the curves of all segments, into a lent list. Counts widen by `as`: by `From` the proofs of
+// the places do not close.
 ghost use Rattle.std.specs.Prelude.{◌≡◌, ◌+◌, ◌*◌, ◌<◌, ◌≤◌, length};
 ghost use Rattle.limits.specs.List.{over};
 ghost use Rattle.curve.specs.Layout.{floats, curve_floats};

@@ -54,7 +54,7 @@ fn hold(n: u64) -> Option<u32>
 
 // The whole number nearest to x times k, by its size: its sign is that of x. The product is exact, of whole
 // numbers: 24 digits and 32 make 56, and the field of the exponent says how far they are shifted. An infinity
-// and a NaN are beyond every number.
+// and a NaN are beyond every number. By `as` and not `u64::from`, by which the proof does not close.
 pub fn round_product(x: f32, k: u32, ties: Ties) -> Option<u32>
     ensures { result ≡ product_of ties k x }
 {
