@@ -29,6 +29,7 @@ use Rattle.intersect.specs.Intersect.{intersect_of}
 use Rattle.intersect.proofs.IntersectCorrect.{refusal_tells}
 use Rattle.intersect.specs.declared.Intersection.{Intersection}
 use Rattle.intersect.specs.declared.Intersection.TheVariants.{Hit, Miss}
+use Rattle.nearest.specs.Answer.{nearest_number}
 use Rattle.nearest.specs.Nearest.{Nearest}
 use Rattle.nearest.proofs.FirstRefusal as nearest-answers
 use Rattle.nearest.proofs.FirstRefusal.{nearest-numbered}
@@ -36,7 +37,7 @@ use Rattle.sheet.specs.Answer.{reply_number}
 use Rattle.sheet.specs.Sheet.{sheet_of}
 use Rattle.sheet.specs.declared.Sheet.{Sheet}
 use Rattle.sheet.specs.declared.SheetRefusal.{SheetRefusal}
-use Rattle.curve_c.specs.Calls.{met_by, nearest_by, nearest_number}
+use Rattle.curve_c.specs.Calls.{met_by, nearest_by}
 
 -- ---- an answer or a refusal
 

@@ -3,7 +3,6 @@
 use Rattle.std.specs.Prelude.{ℕ, Bool, cond, List, [], ◌∷◌, ltb, set, Float, Option, Some, None, Result, Ok, Err}
 use Rattle.std.specs.Result.{result_ok}
 use Rattle.limits.specs.declared.refusal.Refusal.{Refusal}
-use Rattle.limits.specs.Refused.{number_of}
 use Rattle.geometry.specs.declared.bounds.Bounds3f.{Bounds3f}
 use Rattle.geometry.specs.Bounds.{bounds_floats}
 use Rattle.geometry.specs.Ray.{ray_from}
@@ -11,8 +10,9 @@ use Rattle.matrix.specs.Matrix.{matrix_from}
 use Rattle.interaction.specs.declared.SurfaceInteraction.{SurfaceInteraction}
 use Rattle.interaction.specs.Floats.{record_floats}
 use Rattle.intersect.specs.declared.Intersection.{Intersection}
-use Rattle.intersect.specs.declared.Intersection.TheVariants.{Hit, Miss}
+use Rattle.intersect.specs.Answer.{met_record, met_count}
 use Rattle.intersect.specs.Intersect.{intersect_of}
+use Rattle.nearest.specs.Answer.{nearest_record, nearest_curve}
 use Rattle.nearest.specs.Nearest.{Nearest, nearest_of}
 use Rattle.curve_set.specs.declared.layout.Head.{Head}
 use Rattle.curve_set.specs.Layout.{head_by}
@@ -53,32 +53,21 @@ unfoldable pub met_by : List Float → List Float → List Float → ℕ → Lis
 met_by piece o2w w2o reverse ray = intersect_of piece (matrix_from o2w 0) (matrix_from w2o 0) (ltb 0 reverse) (ray_from ray 0)
 
 abbrev pub record_after : Result Intersection Refusal → List Float → List Float
-record_after (Ok (Hit h n)) old = record_floats h
-record_after (Ok (Miss n)) old = old
-record_after (Err reason) old = old
+record_after a = written record_floats (met_record a)
 
 abbrev pub looked_after : Result Intersection Refusal → ℕ → ℕ
-looked_after (Ok (Hit h n)) old = n
-looked_after (Ok (Miss n)) old = n
-looked_after (Err reason) old = old
+looked_after a = written (λ n. n) (met_count a)
 
 -- ---- curve_nearest
 
 unfoldable pub nearest_by : List Float → List Float → List Float → ℕ → List Float → Nearest
 nearest_by list o2w w2o reverse ray = nearest_of list (matrix_from o2w 0) (matrix_from w2o 0) (ltb 0 reverse) (ray_from ray 0)
 
--- 0 a hit, 1 a miss, or the refusal's
-abbrev pub nearest_number : Nearest → ℕ
-nearest_number (Ok hit) = hit_number hit
-nearest_number (Err reason) = number_of reason
-
 abbrev pub nearest_after : Nearest → List Float → List Float
-nearest_after (Ok hit) old = hit_record hit old
-nearest_after (Err reason) old = old
+nearest_after a = written record_floats (nearest_record a)
 
 abbrev pub piece_after : Nearest → ℕ → ℕ
-piece_after (Ok hit) old = hit_place hit old
-piece_after (Err reason) old = old
+piece_after a = written (λ k. k) (nearest_curve a)
 
 -- ---- curve_set_open
 

@@ -1,6 +1,7 @@
 // Where a ray first meets a list of curves.
 ghost use Rattle.std.specs.Prelude.{◌≡◌};
-ghost use Rattle.curve_c.specs.Calls.{nearest_by, nearest_number, nearest_after, piece_after};
+ghost use Rattle.nearest.specs.Answer.{nearest_number};
+ghost use Rattle.curve_c.specs.Calls.{nearest_by, nearest_after, piece_after};
 
 use crate::outputs::put_hit;
 use geometry::{RAY_FLOATS, ray_from};

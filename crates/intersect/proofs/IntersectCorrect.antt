@@ -2,7 +2,6 @@
 use mathlib.Core.Bool.{Bool, true, false, cond, not, ◌&&◌}
 use mathlib.Core.List.{List, ◌++◌}
 use mathlib.Core.Logic.{◌⊎◌, inl, inr, ⊎_elim}
-use mathlib.Core.Option.{some, none-ne-some}
 use mathlib.Core.Path.{◌≡◌, refl, sym, ap, subst, ◌∙◌}
 use Prim.Native.Nat.{ℕ, ◌+◌, ◌-◌, ◌^◌, ◌≤◌}
 use native.Mathlib.Omega.{arith}
@@ -112,5 +111,5 @@ module _ (l : List Float) (o2w w2o : Matrix4x4) (reverse : Bool) (r : Ray) where
       same h = let clash = sym h.refused ∙ e in cc
 
   -- whatever was asked, the count in a hit or a miss is at most 2,047
-  pub count_few : (n : ℕ) → met_count (intersect_of l o2w w2o reverse r) ≡ some n → n ≤ 2047
-  count_few n e = ⊎_elim (λ h. absurd (none-ne-some n (sym (ap met_count h.refused) ∙ e))) (λ h. h.looked_most n e) intersect_correct
+  pub count_few : (n : ℕ) → met_count (intersect_of l o2w w2o reverse r) ≡ Some n → n ≤ 2047
+  count_few n e = ⊎_elim (λ h. let clash = sym (ap met_count h.refused) ∙ e in cc) (λ h. h.looked_most n e) intersect_correct

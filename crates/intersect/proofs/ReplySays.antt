@@ -1,12 +1,12 @@
 -- The reply of `intersect`, of a curve in the ray's frame that is cut d times, is right: `decided`. Assumes nothing.
 use mathlib.Core.Bool.{Bool, true, false, ◌&&◌, and-eq-true_iff, false≢true, true≢false}
 use mathlib.Core.Logic.{◌↔◌, inl, inr}
-use mathlib.Core.Option.{Option, none, some, none-ne-some}
+use mathlib.Core.Option.{Option, none, some}
 use mathlib.Core.Path.{◌≡◌, refl, sym, ap, subst, ◌∙◌}
 use Prim.Native.Nat.{ℕ, ◌+◌, ◌-◌, ◌^◌, ◌≤◌}
 use native.Mathlib.Numerals.{add-one}
 use native.Mathlib.Omega.{arith}
-use Rattle.std.specs.Prelude.{Some, None, Result, Ok, Err}
+use Rattle.std.specs.Prelude.{Some, None, Result, Ok, Err, unwrap_or}
 use Rattle.geometry.specs.declared.ray.Ray.{Ray}
 use Rattle.limits.specs.declared.refusal.Refusal.{Refusal}
 use Rattle.limits.specs.Refused.{number_of}
@@ -154,13 +154,13 @@ module _ (c : Curve) (v : View) (s : Subcurve) (d : ℕ) where
         → (i : ℕ) × (x : Crossing) × (f : Frame) × Decides c v s d i × (leaf_at c v s d i ≡ with_frame x f) × (at ≡ record_of c ray flip x f)
     recorded at n e = let h = (subst Says e says).1 in (h.0, h.1, h.2, h.3, h.5, h.6)
 
-    counted : (n : ℕ) → met_count (replied_at c ray flip v s d) ≡ some n → n ≡ count_of c v s d
+    counted : (n : ℕ) → met_count (replied_at c ray flip v s d) ≡ Some n → n ≡ count_of c v s d
     counted n = go (replied_at c ray flip v s d) says
       where
-        go : (r : Result Intersection Refusal) → Says r → met_count r ≡ some n → n ≡ count_of c v s d
-        go (Ok (Hit r m)) h e = ap (at_or (λ i. i) 0) (sym e) ∙ h.0
-        go (Ok (Miss m)) h e = ap (at_or (λ i. i) 0) (sym e) ∙ h.0
-        go (Err k) h e = absurd (none-ne-some n e)
+        go : (r : Result Intersection Refusal) → Says r → met_count r ≡ Some n → n ≡ count_of c v s d
+        go (Ok (Hit r m)) h e = ap (λ o. unwrap_or o 0) (sym e) ∙ h.0
+        go (Ok (Miss m)) h e = ap (λ o. unwrap_or o 0) (sym e) ∙ h.0
+        go (Err k) h e = cc
 
     pub decided : Decided c ray flip v s d (replied_at c ray flip v s d)
     decided = record {

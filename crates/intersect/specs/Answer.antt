@@ -1,6 +1,5 @@
 -- What each answer of `intersect` is: its number, and its values. Definitions only.
-use Rattle.std.specs.Prelude.{ℕ, Result, Ok, Err}
-use Rattle.std.proofs.Math.Option.{Option, none, some}
+use Rattle.std.specs.Prelude.{ℕ, Option, Some, None, Result, Ok, Err}
 use Rattle.limits.specs.declared.refusal.Refusal.{Refusal}
 use Rattle.limits.specs.Refused.{number_of}
 use Rattle.interaction.specs.declared.SurfaceInteraction.{SurfaceInteraction}
@@ -15,12 +14,12 @@ met_number (Err reason) = number_of reason
 
 -- a hit's record
 abbrev pub met_record : Result Intersection Refusal → Option SurfaceInteraction
-met_record (Ok (Hit h n)) = some h
-met_record (Ok (Miss n)) = none
-met_record (Err reason) = none
+met_record (Ok (Hit h n)) = Some h
+met_record (Ok (Miss n)) = None
+met_record (Err reason) = None
 
 -- a hit's and a miss's count
 abbrev pub met_count : Result Intersection Refusal → Option ℕ
-met_count (Ok (Hit h n)) = some n
-met_count (Ok (Miss n)) = some n
-met_count (Err reason) = none
+met_count (Ok (Hit h n)) = Some n
+met_count (Ok (Miss n)) = Some n
+met_count (Err reason) = None

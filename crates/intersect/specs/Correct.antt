@@ -101,9 +101,9 @@ pub record Decided (c : Curve) (ray : Ray) (flip : Bool) (v : View) (whole : Sub
   pub recorded : (at : SurfaceInteraction) (n : ℕ) → answer ≡ Ok (Hit at n)
       → (i : ℕ) × (x : Crossing) × (f : Frame) × Decides c v whole d i × (leaf_at c v whole d i ≡ with_frame x f) × (at ≡ record_of c ray flip x f)
   -- "The count in a hit or a miss equals the number of open pieces of the walk, of all sizes, that start no later than the stop, all of them if there is none."
-  pub counted : (n : ℕ) → met_count answer ≡ some n → n ≡ open_pieces c v whole d
+  pub counted : (n : ℕ) → met_count answer ≡ Some n → n ≡ open_pieces c v whole d
   -- "It is at most 2^(d+1) - 1."
-  pub count_most : (n : ℕ) → met_count answer ≡ some n → n ≤ 2 ^ (d + 1) - 1
+  pub count_most : (n : ℕ) → met_count answer ≡ Some n → n ≤ 2 ^ (d + 1) - 1
 
 -- ---- the call
 
@@ -147,7 +147,7 @@ module _ (l : List Float) (o2w w2o : Matrix4x4) (reverse : Bool) (r : Ray) (answ
     pub depth_most : d ≤ 10
     pub decided : Decided (curve_from l) ray (flips_of reverse o2w) view whole d answer
     -- so the count is at most 2,047
-    pub looked_most : (n : ℕ) → met_count answer ≡ some n → n ≤ 2047
+    pub looked_most : (n : ℕ) → met_count answer ≡ Some n → n ≤ 2047
 
   -- an answer of `intersect` to these is right
   abbrev pub Correct : Type 0
