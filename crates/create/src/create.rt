@@ -1,10 +1,10 @@
 // create_curve_shape and create_curve: the curves of all segments, into a lent list. Counts widen by `as`: by `From` the proofs of
 // the places do not close.
-ghost use Rattle.std.specs.Prelude.{◌≡◌, ◌+◌, ◌*◌, ◌<◌, ◌≤◌, length};
+ghost use Rattle.std.specs.Prelude.{◌≡◌, ◌+◌, ◌*◌, ◌≤◌, length};
 ghost use Rattle.limits.specs.List.{over};
 ghost use Rattle.curve.specs.Layout.{floats, curve_floats};
-ghost use Rattle.create.specs.Basis.{stride_of};
-ghost use Rattle.create.specs.Create.{ratio, part_of, part_floats, part_count, end_width, segment_floats, created_floats, params_of, created_of, list_after};
+ghost use Rattle.create.specs.Basis.{stride_of, segment_at};
+ghost use Rattle.create.specs.Create.{ratio, part_of, part_floats, part_count, end_width, created_floats, params_of, created_of, list_after};
 ghost use Rattle.create.specs.Shape.{degree_number, basis_number, params_in};
 
 use crate::basis::segment;
@@ -44,18 +44,16 @@ fn quotient(a: u16, b: u16) -> f32
     f32::from(a) / f32::from(b)
 }
 
-// Part i of a segment.
-#[tactic(auto, unfolding(crate::specs::Create::part_of))]
-fn part(s: Segment, i: u16) -> Curve
-    requires { i < s.parts }
-    ensures { result ≡ part_of s.cp s.width0 s.width1 s.parts i }
+// The part of a segment between two values of u.
+fn part(s: Segment, umin: f32, umax: f32) -> Curve
+    ensures { result ≡ record { cp = s.cp; width0 = s.width0; width1 = s.width1; umin = umin; umax = umax } }
 {
     Curve {
         cp: s.cp,
         width0: s.width0,
         width1: s.width1,
-        umin: quotient(i, s.parts),
-        umax: quotient(i + 1, s.parts),
+        umin,
+        umax,
     }
 }
 
@@ -70,14 +68,18 @@ fn put_curve(list: &mut [f32], at: usize, curve: Curve)
     }
 }
 
-// The Rust's create_curve: all parts of a segment. The list goes with a place, and not as its rest, since the clauses say
-// what becomes of all of it: `over` of a rest would owe what stands before.
+// The Rust's create_curve: all parts of a segment. A part begins at the u where the one before it ends: to divide for both
+// takes a quarter longer. The list goes with a place, and not as its rest, since the clauses say what becomes of all of it:
+// `over` of a rest would owe what stands before.
 fn create_curve(list: &mut [f32], at: usize, s: Segment)
     requires { at + floats * s.parts ≤ length list.old }
     ensures { list.new ≡ over list.old at (part_floats s.cp s.width0 s.width1 s.parts) }
 {
+    let mut umin = quotient(0, s.parts);
     for i in 0..s.parts {
-        put_curve(list, at + i as usize * FLOATS, part(s, i));
+        let umax = quotient(i + 1, s.parts);
+        put_curve(list, at + i as usize * FLOATS, part(s, umin, umax));
+        umin = umax;
     }
 }
 
@@ -89,18 +91,21 @@ fn end_width(shape: Shape, n: u16, seg: u16) -> f32
     lerp(quotient(seg, n), shape.width0, shape.width1)
 }
 
-// Segment seg of n.
-#[tactic(auto, unfolding(crate::specs::Create::segment_floats))]
-fn segment_of(points: &[f32], shape: Shape, n: u16, seg: u16) -> Segment
-    requires count { seg < n }
-    requires points { seg * stride_of (degree_number shape.degree) (basis_number shape.basis) + 3 * degree_number shape.degree + 3 ≤ length points.now }
-    ensures parts { result.parts ≡ part_count shape.splitdepth }
-    ensures written { part_floats result.cp result.width0 result.width1 result.parts ≡ segment_floats points.now (params_in shape) n seg }
+// A segment by its number, between two widths.
+fn segment_of(points: &[f32], shape: Shape, seg: u16, width0: f32, width1: f32) -> Segment
+    requires { seg * stride_of (degree_number shape.degree) (basis_number shape.basis) + 3 * degree_number shape.degree + 3 ≤ length points.now }
+    ensures { result ≡ record {
+      cp = segment_at points.now (degree_number shape.degree) (basis_number shape.basis)
+          (seg * stride_of (degree_number shape.degree) (basis_number shape.basis));
+      width0 = width0;
+      width1 = width1;
+      parts = part_count shape.splitdepth;
+    } }
 {
     Segment {
         cp: segment(points, shape, seg as usize * shape.stride()),
-        width0: end_width(shape, n, seg),
-        width1: end_width(shape, n, seg + 1),
+        width0,
+        width1,
         parts: shape.part_count(),
     }
 }
@@ -111,8 +116,12 @@ fn put_segments(list: &mut [f32], points: &[f32], shape: Shape, n: u16)
     ensures { list.new ≡ over list.old 0 (created_floats points.now (params_in shape) n) }
 {
     let size = FLOATS * shape.part_count() as usize;
+    let mut width0 = end_width(shape, n, 0);
     for seg in 0..n {
-        create_curve(list, seg as usize * size, segment_of(points, shape, n, seg));
+        let width1 = end_width(shape, n, seg + 1);
+        let segment = segment_of(points, shape, seg, width0, width1);
+        create_curve(list, seg as usize * size, segment);
+        width0 = width1;
     }
 }
 

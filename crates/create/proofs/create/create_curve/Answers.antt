@@ -1,4 +1,4 @@
-use Rattle.std.proofs.Common.{ℕ, ◌+◌, ◌*◌, List, sym, ap, ◌∙◌, arith}
+use Rattle.std.proofs.Common.{◌≡◌, ℕ, ◌+◌, ◌*◌, List, sym, ap, ◌∙◌, arith}
 use native.Mathlib.Nat.{le_antisymm}
 use lib.Ieee.{Float}
 use Rattle.limits.specs.List.{over, up_to}
@@ -6,28 +6,41 @@ use Rattle.limits.proofs.Lists.{over_nil, over_next}
 use Rattle.curve.specs.declared.curve.Curve.{Curve}
 use Rattle.curve.specs.Layout.{floats, curve_floats}
 use Rattle.curve.proofs.Records.{length-floats}
-use Rattle.create.specs.Create.{part_of, part_floats}
+use Rattle.create.specs.Create.{ratio, part_of, part_floats}
 use Rattle.create.specs.declared.create.Segment.{Segment}
 use Rattle.create.proofs.create.create_curve.Goals as goal
 
 abbrev written : Segment → ℕ → List Float
 written s i = curve_floats (part_of s.cp s.width0 s.width1 s.parts i)
 
+-- from one value of u to the next
+abbrev between : Segment → Float → Float → Curve
+between s u v = record { cp = s.cp; width0 = s.width0; width1 = s.width1; umin = u; umax = v }
+
 pub loop-i-init : goal.loop-i-init
 unfolding up_to
-loop-i-init c = sym (over_nil c.args.list.now c.args.at)
+loop-i-init c = (sym (over_nil c.args.list.now c.args.at), c.quotient-umin.ensures)
 
 pub loop-i-preserved : goal.loop-i-preserved
+unfolding part_of
 loop-i-preserved c =
     let d = c.args.list.now in
     let at = c.args.at in
     let i = c.loop-i.i in
-    let f = written c.args.s in
-    c.put_curve.ensures
-    ∙ ap (λ (x : List Float). over x (at + i * floats) (curve_floats c.part.result)) c.loop-i.invariant
-    ∙ ap (λ (x : Curve). over (over d at (up_to f i)) (at + i * floats) (curve_floats x)) c.part.ensures
-    ∙ over_next d at f floats i (λ j. length-floats _) (omega arith)
+    let s = c.args.s in
+    let f = written s in
+    let next = c.quotient-umax.ensures in
+    let here : c.part.result ≡ part_of s.cp s.width0 s.width1 s.parts i =
+    c.part.ensures
+    ∙ ap (λ (u : Float). between s u c.quotient-umax.result) c.loop-i.invariant.1
+    ∙ ap (λ (v : Float). between s (ratio i s.parts) v) next in (
+      c.put_curve.ensures
+          ∙ ap (λ (x : List Float). over x (at + i * floats) (curve_floats c.part.result)) c.loop-i.invariant.0
+          ∙ ap (λ (x : Curve). over (over d at (up_to f i)) (at + i * floats) (curve_floats x)) here
+          ∙ over_next d at f floats i (λ j. length-floats _) (omega arith),
+      next,
+    )
 
 pub returns : goal.returns
 unfolding part_floats
-returns c = c.loop-i.invariant ∙ ap (λ (x : ℕ). over c.args.list.now c.args.at (up_to (written c.args.s) x)) (le_antisymm c.loop-i.auto.i-end c.loop-i-test.false)
+returns c = c.loop-i.invariant.0 ∙ ap (λ (x : ℕ). over c.args.list.now c.args.at (up_to (written c.args.s) x)) (le_antisymm c.loop-i.auto.i-end c.loop-i-test.false)
