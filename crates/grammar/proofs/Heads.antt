@@ -17,14 +17,14 @@ use Rattle.grammar.proofs.Lines.{By, line_by}
 
 -- what holds of a head: it is wrong at a line, or holds behind it
 pub field_either :
-    (P : Result Head WrongLine → Type 0) (l : List ℕ) (field : Field) (at : ℕ) (f : Line → Result Head WrongLine)
+    {read : Head} (P : Result Head WrongLine → Type 0) (l : List ℕ) (field : Field) (at : ℕ) (f : Line → Result Head WrongLine)
     → ((line : Line) → line_at l (kind.Field field) at ≡ Some line → P (f line))
-    → (line_at l (kind.Field field) at ≡ None → P (Err (record { at = at; lines = lines_before field })))
-    → P (field_at l field at >>= f)
+    → (line_at l (kind.Field field) at ≡ None → P (Err (record { at = at; lines = lines_before field; read = read })))
+    → P (field_at l field read at >>= f)
 unfolding field_at
-field_either P l field at f g h = go (line_at l (kind.Field field) at) refl
+field_either {read = read} P l field at f g h = go (line_at l (kind.Field field) at) refl
   where
-    go : (x : Option Line) → line_at l (kind.Field field) at ≡ x → P (line_or_wrong x (lines_before field) at >>= f)
+    go : (x : Option Line) → line_at l (kind.Field field) at ≡ x → P (line_or_wrong x (lines_before field) read at >>= f)
     go (Some line) e = g line e
     go None e = h e
 
@@ -44,9 +44,9 @@ head_few l =
     (λ splitdepth _. field_either Few l field.Reverse splitdepth.next _ (λ reverse _. lit≤ tt) (λ _. lit≤ tt)) (λ _. lit≤ tt)) (λ _. lit≤ tt)) (λ _. lit≤ tt)) (λ _. lit≤ tt)) (λ _. lit≤ tt)) (λ _. lit≤ tt)
 
 -- a head that is wrong at a line, or goes on behind it
-step : (l : List ℕ) (field : Field) (at most : ℕ) (f : Line → Result Head WrongLine) → at ≤ most → most ≤ 210 → ((line : Line) → line.next ≤ most + 30 → head_end (f line) ≤ 210)
-    → head_end (field_at l field at >>= f) ≤ 210
-step l field at most f h g rest =
+step : (read : Head) (l : List ℕ) (field : Field) (at most : ℕ) (f : Line → Result Head WrongLine) → at ≤ most → most ≤ 210 → ((line : Line) → line.next ≤ most + 30 → head_end (f line) ≤ 210)
+    → head_end (field_at l field read at >>= f) ≤ 210
+step read l field at most f h g rest =
     field_either (λ head. head_end head ≤ 210) l field at f
     (λ line e. let by : line.next ≤ at + 30 = subst (By (at + 30)) e (line_by l field at) in rest line (omega arith))
     (λ _. omega arith)
@@ -55,10 +55,10 @@ step l field at most f h g rest =
 pub head_short : (l : List ℕ) → head_end (head_of l) ≤ 210
 unfolding head_of
 head_short l =
-    step l field.Degree 0 0 _ (lit≤ tt) (lit≤ tt)
-    (λ degree h. step l field.Basis degree.next 30 _ h (lit≤ tt)
-    (λ basis h. step l field.«Type» basis.next 60 _ h (lit≤ tt)
-    (λ ty h. step l field.Width0 ty.next 90 _ h (lit≤ tt)
-    (λ width0 h. step l field.Width1 width0.next 120 _ h (lit≤ tt)
-    (λ width1 h. step l field.SplitDepth width1.next 150 _ h (lit≤ tt)
-    (λ splitdepth h. step l field.Reverse splitdepth.next 180 _ h (lit≤ tt) (λ reverse h. h)))))))
+    step _ l field.Degree 0 0 _ (lit≤ tt) (lit≤ tt)
+    (λ degree h. step _ l field.Basis degree.next 30 _ h (lit≤ tt)
+    (λ basis h. step _ l field.«Type» basis.next 60 _ h (lit≤ tt)
+    (λ ty h. step _ l field.Width0 ty.next 90 _ h (lit≤ tt)
+    (λ width0 h. step _ l field.Width1 width0.next 120 _ h (lit≤ tt)
+    (λ width1 h. step _ l field.SplitDepth width1.next 150 _ h (lit≤ tt)
+    (λ splitdepth h. step _ l field.Reverse splitdepth.next 180 _ h (lit≤ tt) (λ reverse h. h)))))))

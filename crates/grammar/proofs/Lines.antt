@@ -10,6 +10,7 @@ use Rattle.text.specs.Ascii.{ascii}
 use Rattle.text.specs.Bytes.{◌>>=◌, byte_is, stands_at, word_at}
 use Rattle.grammar.specs.Grammar.{line_feed, right, decimal_digit_at, decimal_at, decimal_line, word_line_at, word_line, either_line, type_line, line_at}
 use Rattle.grammar.specs.Head.{line_or_wrong, lines_before, field_at}
+use Rattle.grammar.specs.declared.head.Head.{Head}
 use Rattle.grammar.specs.declared.reader.Line.{Line}
 use Rattle.grammar.specs.declared.reader.Field.{Field}
 use Rattle.grammar.specs.declared.reader.Field.TheVariants as field
@@ -77,10 +78,10 @@ line_end (Ok line) = line.next
 line_end (Err wrong) = wrong.at
 
 -- a line of the head has at most 30 bytes
-pub near : (l : List ℕ) (field : Field) (at : ℕ) → line_end (field_at l field at) ≤ at + 30
+pub near : (l : List ℕ) (field : Field) (read : Head) (at : ℕ) → line_end (field_at l field read at) ≤ at + 30
 unfolding field_at
-near l field at = go (line_at l (kind.Field field) at) (line_by l field at)
+near l field read at = go (line_at l (kind.Field field) at) (line_by l field at)
   where
-    go : (x : Option Line) → By (at + 30) x → line_end (line_or_wrong x (lines_before field) at) ≤ at + 30
+    go : (x : Option Line) → By (at + 30) x → line_end (line_or_wrong x (lines_before field) read at) ≤ at + 30
     go (Some line) h = h
     go None h = omega arith

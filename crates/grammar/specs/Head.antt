@@ -14,10 +14,10 @@ abbrev pub ◌>>=◌ : {A B : Type 0} → Result A WrongLine → (A → Result B
 ◌>>=◌ (Ok a) f = f a
 ◌>>=◌ (Err e) f = Err e
 
--- a line, or where it is wrong, and how many lines stand before it
-abbrev pub line_or_wrong : Option Line → ℕ → ℕ → Result Line WrongLine
-line_or_wrong (Some line) lines at = Ok line
-line_or_wrong None lines at = Err (record { at = at; lines = lines })
+-- a line, or where it is wrong, how many lines stand before it, and what they say
+abbrev pub line_or_wrong : Option Line → ℕ → Head → ℕ → Result Line WrongLine
+line_or_wrong (Some line) lines read at = Ok line
+line_or_wrong None lines read at = Err (record { at = at; lines = lines; read = read })
 
 -- how many lines stand before a line of the head
 abbrev pub lines_before : Field → ℕ
@@ -29,30 +29,33 @@ lines_before field.Width1 = 4
 lines_before field.SplitDepth = 5
 lines_before field.Reverse = 6
 
--- a line of the head at a place, where those before it are right
-unfoldable pub field_at : List ℕ → Field → ℕ → Result Line WrongLine
-field_at l field at = line_or_wrong (line_at l (kind.Field field) at) (lines_before field) at
+-- a line of the head at a place, where those before it are right and say so much
+unfoldable pub field_at : List ℕ → Field → Head → ℕ → Result Line WrongLine
+field_at l field read at = line_or_wrong (line_at l (kind.Field field) at) (lines_before field) read at
+
+abbrev pub head_by : ℕ → ℕ → ℕ → ℕ → ℕ → ℕ → ℕ → ℕ → Head
+head_by degree basis ty width0 width1 splitdepth reverse end = record {
+  degree = degree;
+  basis = basis;
+  ty = ty;
+  width0 = width0;
+  width1 = width1;
+  splitdepth = splitdepth;
+  reverse = reverse;
+  end = end;
+}
 
 -- the seven lines, each from where the one before it ends
 unfoldable pub head_of : List ℕ → Result Head WrongLine
 head_of l = do
-  degree ← field_at l field.Degree 0
-  basis ← field_at l field.Basis degree.next
-  ty ← field_at l field.«Type» basis.next
-  width0 ← field_at l field.Width0 ty.next
-  width1 ← field_at l field.Width1 width0.next
-  splitdepth ← field_at l field.SplitDepth width1.next
-  reverse ← field_at l field.Reverse splitdepth.next
-  Ok (record {
-    degree = degree.value;
-    basis = basis.value;
-    ty = ty.value;
-    width0 = width0.value;
-    width1 = width1.value;
-    splitdepth = splitdepth.value;
-    reverse = reverse.value;
-    end = reverse.next;
-  })
+  degree ← field_at l field.Degree (head_by 0 0 0 0 0 0 0 0) 0
+  basis ← field_at l field.Basis (head_by degree.value 0 0 0 0 0 0 degree.next) degree.next
+  ty ← field_at l field.«Type» (head_by degree.value basis.value 0 0 0 0 0 basis.next) basis.next
+  width0 ← field_at l field.Width0 (head_by degree.value basis.value ty.value 0 0 0 0 ty.next) ty.next
+  width1 ← field_at l field.Width1 (head_by degree.value basis.value ty.value width0.value 0 0 0 width0.next) width0.next
+  splitdepth ← field_at l field.SplitDepth (head_by degree.value basis.value ty.value width0.value width1.value 0 0 width1.next) width1.next
+  reverse ← field_at l field.Reverse (head_by degree.value basis.value ty.value width0.value width1.value splitdepth.value 0 splitdepth.next) splitdepth.next
+  Ok (head_by degree.value basis.value ty.value width0.value width1.value splitdepth.value reverse.value reverse.next)
 
 -- ---- how far the head is right
 

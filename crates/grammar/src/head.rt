@@ -6,7 +6,7 @@ use crate::reader::{Field, Kind, Line, Reader};
 
 /// What the lines say, widths as their bits, and the place behind them.
 // Numbers, as create_curve_shape is given them, which tells those that it refuses.
-#[derive(Clone, Copy, Debug, PartialEq, Eq)]
+#[derive(Clone, Copy, Debug, PartialEq, Eq, Default)]
 pub struct Head {
     pub degree: u32,
     pub basis: u32,
@@ -18,17 +18,18 @@ pub struct Head {
     pub end: usize,
 }
 
-/// Where a wrong line starts, and how many right lines stand before it.
+/// Where a wrong line starts, how many right lines stand before it, and what they say, the rest 0.
 #[derive(Clone, Copy, Debug, PartialEq, Eq)]
 pub struct WrongLine {
     pub at: usize,
     pub lines: usize,
+    pub read: Head,
 }
 
-// A line behind those that stand before it, which are right.
+// A line behind those that stand before it, which are right and say so much.
 #[tactic(auto, unfolding(crate::specs::Head::field_at))]
-fn take_field(reader: &mut Reader<'_>, field: Field) -> Result<Line, WrongLine>
-    ensures value { result ≡ field_at reader.old.src.now field reader.old.at }
+fn take_field(reader: &mut Reader<'_>, field: Field, read: Head) -> Result<Line, WrongLine>
+    ensures value { result ≡ field_at reader.old.src.now field read reader.old.at }
     ensures src { reader.new.src.now ≡ reader.old.src.now }
     ensures next { IfOk result (λ line. reader.new.at ≡ line.next) }
     ensures lines { IfErr result (λ wrong. wrong.lines ≡ lines_before field) }
@@ -37,7 +38,7 @@ fn take_field(reader: &mut Reader<'_>, field: Field) -> Result<Line, WrongLine>
     let lines = field as usize;
     reader
         .take(Kind::Field(field))
-        .ok_or(WrongLine { at, lines })
+        .ok_or(WrongLine { at, lines, read })
 }
 
 /// Reads the head of a sheet.
@@ -47,21 +48,27 @@ pub fn read_head(s: &[u8]) -> Result<Head, WrongLine>
     ensures few { IfErr result (λ wrong. wrong.lines < 7) }
 {
     let mut reader = Reader { src: s, at: 0 };
-    let degree = take_field(&mut reader, Field::Degree)?;
-    let basis = take_field(&mut reader, Field::Basis)?;
-    let ty = take_field(&mut reader, Field::Type)?;
-    let width0 = take_field(&mut reader, Field::Width0)?;
-    let width1 = take_field(&mut reader, Field::Width1)?;
-    let splitdepth = take_field(&mut reader, Field::SplitDepth)?;
-    let reverse = take_field(&mut reader, Field::Reverse)?;
-    Ok(Head {
-        degree: degree.value,
-        basis: basis.value,
-        ty: ty.value,
-        width0: width0.value,
-        width1: width1.value,
-        splitdepth: splitdepth.value,
-        reverse: reverse.value,
-        end: reverse.next,
-    })
+    let mut head = Head::default();
+    let degree = take_field(&mut reader, Field::Degree, head)?;
+    head.degree = degree.value;
+    head.end = degree.next;
+    let basis = take_field(&mut reader, Field::Basis, head)?;
+    head.basis = basis.value;
+    head.end = basis.next;
+    let ty = take_field(&mut reader, Field::Type, head)?;
+    head.ty = ty.value;
+    head.end = ty.next;
+    let width0 = take_field(&mut reader, Field::Width0, head)?;
+    head.width0 = width0.value;
+    head.end = width0.next;
+    let width1 = take_field(&mut reader, Field::Width1, head)?;
+    head.width1 = width1.value;
+    head.end = width1.next;
+    let splitdepth = take_field(&mut reader, Field::SplitDepth, head)?;
+    head.splitdepth = splitdepth.value;
+    head.end = splitdepth.next;
+    let reverse = take_field(&mut reader, Field::Reverse, head)?;
+    head.reverse = reverse.value;
+    head.end = reverse.next;
+    Ok(head)
 }

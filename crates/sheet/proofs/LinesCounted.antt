@@ -77,20 +77,20 @@ line_behind l n at next h b = (feeds_line l at next h ∙ ap (λ (k : ℕ). k + 
 abbrev Counted : List ℕ → Result Head WrongLine → Type 0
 Counted l head = Behind l (head_lines_right head) (head_end head)
 
-field_counted : (l : List ℕ) (field : Field) (at : ℕ) (f : Line → Result Head WrongLine) → Behind l (lines_before field) at → ((line : Line) → Behind l (lines_before field + 1) line.next → Counted l (f line)) → Counted l (field_at l field at >>= f)
-field_counted l field at f b g =
+field_counted : (read : Head) (l : List ℕ) (field : Field) (at : ℕ) (f : Line → Result Head WrongLine) → Behind l (lines_before field) at → ((line : Line) → Behind l (lines_before field + 1) line.next → Counted l (f line)) → Counted l (field_at l field read at >>= f)
+field_counted read l field at f b g =
     field_either (Counted l) l field at f (λ line e. g line (line_behind l (lines_before field) at line.next (subst (Ends l at) e (line_ends l (kind.Field field) at)) b)) (λ _. b)
 
 head_counted : (l : List ℕ) → Counted l (head_of l)
 unfolding head_of feeds_before
 head_counted l =
-    field_counted l field.Degree 0 _ (refl, inl refl)
-    (λ degree a. field_counted l field.Basis degree.next _ a
-    (λ basis b. field_counted l field.«Type» basis.next _ b
-    (λ ty c. field_counted l field.Width0 ty.next _ c
-    (λ width0 d. field_counted l field.Width1 width0.next _ d
-    (λ width1 e. field_counted l field.SplitDepth width1.next _ e
-    (λ splitdepth f. field_counted l field.Reverse splitdepth.next _ f
+    field_counted _ l field.Degree 0 _ (refl, inl refl)
+    (λ degree a. field_counted _ l field.Basis degree.next _ a
+    (λ basis b. field_counted _ l field.«Type» basis.next _ b
+    (λ ty c. field_counted _ l field.Width0 ty.next _ c
+    (λ width0 d. field_counted _ l field.Width1 width0.next _ d
+    (λ width1 e. field_counted _ l field.SplitDepth width1.next _ e
+    (λ splitdepth f. field_counted _ l field.Reverse splitdepth.next _ f
     (λ reverse g. g)))))))
 
 -- ---- rows
