@@ -1,9 +1,10 @@
 -- Hexadecimal digits: one more of the eight, and all of them. Assumes nothing.
-use mathlib.Core.List.{[], ◌∷◌, ◌++◌}
-use mathlib.Core.Path.{◌≡◌, refl, sym, ap, ◌∙◌}
+use mathlib.Core.List.{List, [], ◌∷◌, ◌++◌}
+use mathlib.Core.Path.{◌≡◌, refl, sym, ap, ap₂, ◌∙◌}
 use Prim.Native.Nat.{ℕ, zero, suc, ◌+◌, ◌-◌, ◌*◌, ◌/◌, ◌%◌, ◌^◌, ◌<◌, ◌≤◌}
 use native.Mathlib.Omega.{arith}
-use lib.ListN.{take}
+use lib.ListN.{length, take, set}
+use Rattle.std.proofs.lemmas.Grind.{take-set_at}
 use Rattle.text.specs.Digits.{digit_char, four_text, hex_text}
 
 -- digit i behind those above it
@@ -23,6 +24,15 @@ pub hex_next : (w i j : ℕ) → 0 < i → i ≤ 8 → j ≡ i - 1 → take (8 -
 hex_next w i j h g e =
     let above : i ≡ j + 1 = omega arith in
     ap (λ (k : ℕ). take (8 - k) (hex_text w) ++ (digit_char (w / 2 ^ (4 * j) % 16) ∷ [])) above ∙ sym (digit_behind w j (omega arith))
+
+-- the same in a list that is filled
+pub hex_set : (w i j : ℕ) (d : List ℕ) (b : ℕ) → 0 < i → i ≤ 8 → j ≡ i - 1 → length d ≡ 8 → b ≡ digit_char (w / 2 ^ (4 * j) % 16) → take (8 - i) d ≡ take (8 - i) (hex_text w)
+    → take (8 - j) (set d (7 - j) b) ≡ take (8 - j) (hex_text w)
+hex_set w i j d b h g e long is above =
+    let here : 7 - j ≡ 8 - i = omega arith in
+    take-set_at d (7 - j) (8 - j) b (omega arith) (omega arith)
+    ∙ ap₂ (λ (l : List ℕ) (c : ℕ). l ++ (c ∷ [])) (ap (λ (k : ℕ). take k d) here ∙ above) is
+    ∙ hex_next w i j h g e
 
 pub hex_all : (w i : ℕ) → i ≤ 0 → take (8 - i) (hex_text w) ≡ hex_text w
 unfolding hex_text four_text

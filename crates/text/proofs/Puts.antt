@@ -2,14 +2,15 @@
 use mathlib.Core.Bool.{Bool, true, false}
 use mathlib.Core.Logic.{◌⊎◌, inl, inr, ⊎_elim}
 use mathlib.Core.Path.{◌≡◌, refl, sym, ap, ◌∙◌}
-use mathlib.Core.List.{List, [], ◌∷◌, ◌++◌}
+use mathlib.Core.List.{List, [], ◌∷◌, ◌++◌, append_assoc}
 use Prim.Native.Nat.{ℕ, zero, suc, ◌+◌, ◌-◌, ◌≤◌, ◌<◌, min}
-use native.Mathlib.Nat.{add_assoc, sub-zero, suc-sub-suc, min-le_left}
+use native.Mathlib.Numerals.{add-one}
+use native.Mathlib.Nat.{add-zero, add_assoc, sub-zero, suc-sub-suc, min-le_left}
 use native.Mathlib.Omega.{arith}
 use borrow.Author.Tests.{leb-true, leb-false}
 use lib.Dec.{leb}
-use lib.ListN.{length, take, length-append, length-take}
-use lib.Seq.{take_all, paste}
+use lib.ListN.{length, take, drop, set, length-append, length-take}
+use lib.Seq.{take_all, set_split, paste}
 use borrow.Rule.Slice.PartMut.{put_mid}
 use Rattle.std.proofs.lemmas.Slice.{put_mid-paste}
 use Rattle.limits.specs.List.{over}
@@ -60,6 +61,22 @@ then {d} {at} {s} {x} {next} {t} {y} {end} p q =
           ∙ add_assoc at (length f) (length (take (k - length f) t))
           ∙ ap (λ (n : ℕ). at + n) (sym (length-append f (take (k - length f) t)) ∙ ap length (take_two k s t));
     }
+
+-- one byte, where there is room, and where there is none
+pub put_one : (d : List ℕ) (at b : ℕ) → at < length d → Put d at (b ∷ []) (set d at b) (at + 1)
+unfolding fitting over
+put_one d at b h =
+    let all : take (length d - at) (b ∷ []) ≡ b ∷ [] = take_all (length d - at) (b ∷ []) (omega arith) in
+    record {
+      list = rw all (set_split d at b h ∙ ap (λ n. take at d ++ (b ∷ drop n d)) (sym (add-one at)) ∙ sym (append_assoc (take at d) (b ∷ []) (drop (at + 1) d)));
+      place = rw all;
+    }
+
+pub put_none : (d : List ℕ) (at : ℕ) (s : List ℕ) → length d ≤ at → Put d at s d at
+unfolding fitting
+put_none d at s h =
+    let none : length d - at ≡ 0 = omega arith in
+    record { list = rw none (sym (over_nil d at)); place = rw none (sym (add-zero at)) }
 
 -- a copy of as many bytes as there is room for, where k is their number by a range's ends
 module _ (d s : List ℕ) (at : ℕ) where

@@ -38,11 +38,15 @@ impl<'a> Buffer<'a> {
         self.end += n;
     }
 
+    // One byte is stored where it goes: `put_word` would call the library to copy it.
     fn put_digit(&mut self, d: u32)
         requires { d < 16 }
         ensures { Puts self.old self.new (digit_char d ∷ []) }
     {
-        self.put_word(&[digit_char(d)]);
+        if self.end < self.bytes.len() {
+            self.bytes[self.end] = digit_char(d);
+            self.end += 1;
+        }
     }
 
     /// A number in decimal: what is before its last digit, and that digit.
@@ -57,14 +61,16 @@ impl<'a> Buffer<'a> {
         }
     }
 
-    /// The bits of a float, in hexadecimal.
+    /// The bits of a float, in hexadecimal: all eight digits by one copy.
     pub fn put_float(&mut self, x: f32)
         ensures { Puts self.old self.new (float_text x) }
     {
         let bits = float::to_bits(x);
-        for i in (0u32..8).rev() {
-            self.put_digit((bits >> (4 * i)) % 16);
+        let mut digits = [0; 8];
+        for i in (0..8).rev() {
+            digits[7 - i] = digit_char((bits >> (4 * i)) % 16);
         }
+        self.put_word(&digits);
     }
 }
 
