@@ -98,7 +98,7 @@ impl Rest {
                     put_met(out, list, sheet, place);
                 }
             }
-            Err(refused) => put_refused_sheet(out, refused.refusal, refused.line as u32),
+            Err(refused) => put_refused_sheet(out, refused.refusal.number(), refused.line as u32),
         }
     }
 

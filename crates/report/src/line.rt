@@ -94,11 +94,11 @@ pub fn put_answer(out: &mut Buffer<'_>, place: Place, met: Result<Intersection, 
     }
 }
 
-/// A refused sheet, and its wrong line.
-pub fn put_refused_sheet(out: &mut Buffer<'_>, refusal: Refusal, line: u32)
-    ensures { Puts out.old out.new (refused_sheet_text (number_of refusal) line) }
+/// A refused sheet, by the refusal's number, and its wrong line.
+pub fn put_refused_sheet(out: &mut Buffer<'_>, number: u32, line: u32)
+    ensures { Puts out.old out.new (refused_sheet_text number line) }
 {
-    put_number(out, b"refused=", refusal.number());
+    put_number(out, b"refused=", number);
     put_number(out, b" line=", line);
     out.put_word(b"\n");
 }

@@ -19,8 +19,8 @@ module _ (list : List Float) {read : Result Sheet SheetRefusal} where
   later : {k : ℕ} {sheet : Sheet} → read ≡ Ok sheet → (k ≡ 0 → ⊥) → met_text sheet.rays list sheet.reverse ((k - 1) / sheet.pieces) ((k - 1) % sheet.pieces) ≡ line_text list read k
   later {k} e z = rw (e, ne_eqb k 0 z)
 
-  only : (k : ℕ) {refused : SheetRefusal} → read ≡ Err refused → refused_sheet_text (number_of refused.refusal) refused.line ≡ line_text list read k
-  only k e = rw e
+  only : (k : ℕ) {number : ℕ} {refused : SheetRefusal} → read ≡ Err refused → number ≡ number_of refused.refusal → refused_sheet_text number refused.line ≡ line_text list read k
+  only k e f = rw (e, f)
 
 -- which ray and which curve
 at : {read : Result Sheet SheetRefusal} {next : ℕ} {sheet : Sheet} → read ≡ Ok sheet → (next ≡ 0 → ⊥) → next < line_count read → (0 < sheet.pieces) × ((next - 1) / sheet.pieces < sheet.ray_count) × ((next - 1) % sheet.pieces < sheet.pieces)
@@ -51,4 +51,4 @@ pub returns-else-line-eq0 : goal.returns-else-line-eq0
 returns-else-line-eq0 c = rw (← c.self.view_is) (puts_renamed (later _ c.in-Ok.is c.if-line-eq0.false) c.put_met.ensures)
 
 pub returns-in-Err : goal.returns-in-Err
-returns-in-Err c = rw (← c.self.view_is) (puts_renamed (only _ _ c.in-Err.is) c.put_refused_sheet.ensures)
+returns-in-Err c = rw (← c.self.view_is) (puts_renamed (only _ _ c.in-Err.is (omega arith)) c.put_refused_sheet.ensures)

@@ -6,4 +6,4 @@ use Rattle.report.proofs.line.put_refused_sheet.Goals as goal
 
 pub returns : goal.returns
 unfolding refused_sheet_text ascii
-returns c = rw (← c.number.ensures) (then_puts (then_puts c.put_number.ensures c.put_number-2.ensures) c.put_word.ensures)
+returns c = then_puts (then_puts c.put_number.ensures c.put_number-2.ensures) c.put_word.ensures
