@@ -69,6 +69,28 @@ fn put_met(out: &mut Buffer<'_>, list: &[f32; ROOM], sheet: &Sheet, place: Place
 }
 
 impl Rest {
+    /// The rest from a line on, of what was read of a sheet.
+    pub fn new(sheet: Result<Sheet, SheetRefusal>, next: usize) -> Rest
+        requires { Sound (record { sheet = sheet; next = next }) }
+        ensures { result ≡ record { sheet = sheet; next = next } }
+    {
+        Rest { sheet, next }
+    }
+
+    /// What was read of the sheet.
+    pub fn sheet(&self) -> &Result<Sheet, SheetRefusal>
+        ensures { result.now ≡ self.now.sheet }
+    {
+        &self.sheet
+    }
+
+    /// The line that is next, by its number from 0.
+    pub fn next(&self) -> usize
+        ensures { result ≡ self.now.next }
+    {
+        self.next
+    }
+
     // How many lines the report has.
     fn line_count(&self) -> usize
         ensures value { result ≡ line_count self.now.sheet }
