@@ -48,10 +48,9 @@ pub fn intersect(
 ) -> Result<Intersection, Refusal>
     ensures { result ≡ intersect_of curve.now object_to_world world_to_object reverse_orientation ray }
 {
-    let passed = check_ray(object_to_world, world_to_object, ray);
-    let flip = flips(reverse_orientation, object_to_world);
     let curve = CurveRef::try_from(curve)?;
-    passed?;
+    check_ray(object_to_world, world_to_object, ray)?;
+    let flip = flips(reverse_orientation, object_to_world);
     let aim = aim_ray(world_to_object, ray).ok_or(Refusal::ZeroWeight)?;
     intersect_along(&curve, flip, aim)
 }
