@@ -35,9 +35,8 @@ fn intersect_along(curve: &CurveRef<'_>, flip: bool, a: Aim) -> Result<Intersect
     Ok(Intersection::Hit(record, reached.looked))
 }
 
-// Where a ray meets a curve. What is asked of the matrices is done before the curve is looked at, so that they need not
-// be kept through that call; it is told in its order. The matrices and the ray come one by one, as a caller of the Rust has
-// them: a struct would be taken apart again by each call below.
+// Where a ray meets a curve. The matrices and the ray come one by one, as a caller of the Rust has them: a struct would be
+// taken apart again by each call below.
 #[tactic(auto, unfolding(crate::specs::Intersect::intersect_of, crate::specs::Intersect::intersect_refusals, crate::specs::Intersect::intersect_framed, limits::specs::Refused::first_of, frame::specs::Frame::framed_curve, curve::specs::Curve::lent_refusals))]
 pub fn intersect(
     curve: &[f32],
