@@ -7,13 +7,12 @@ use Rattle.std.proofs.KnownBytes.{Appends-trans, Appends-kept, Consumes-nil, Con
 use Rattle.std.specs.Prelude.{Option, Result, Ok, Err}
 use Rattle.std.specs.Result.{result_unwrap_or}
 use Rattle.std.specs.declared.io.Error.{Error}
-use Rattle.std.specs.IoError.{error_kind}
 use Rattle.std.specs.Io.{ReadsAtMost}
 use Rattle.std.specs.Io.KnownBytes.{Appends, Consumes, IsAtEnd, WriteAppends, ReadConsumes}
 use borrow.Rule.Slice.PartMut.{post_of, put_mid}
 use Rattle.transfer.specs.declared.Stop.TheVariants.{Nothing, Failed}
 use Rattle.transfer.specs.declared.Transfer.{Transfer}
-use Rattle.transfer.specs.Transfer.{Skips, is_interruption, stopped_at, interrupted_again, after_failure, after_call}
+use Rattle.transfer.specs.Transfer.{Skips, number_of, is_interruption, stopped_at, interrupted_again, after_failure, after_call}
 
 -- how many bytes a call moved
 abbrev pub moved_by : Result ℕ Error → ℕ
@@ -28,7 +27,7 @@ pub done-after_call : (t : Transfer) (answer : Result ℕ Error) → (after_call
 unfolding after_call after_failure
 done-after_call t (Ok zero) = omega arith
 done-after_call t (Ok (suc k)) = refl
-done-after_call t (Err error) = done-failure t error (is_interruption (error_kind error)) ∙ omega arith
+done-after_call t (Err error) = done-failure t error (is_interruption (number_of error)) ∙ omega arith
 
 -- ---- the bytes of one call behind those of others
 
@@ -67,7 +66,7 @@ pub end_behind : (b c : Option (List ℕ)) (t : Transfer) (answer : Result ℕ E
 unfolding after_call after_failure
 end_behind b c t (Ok zero) xs l q h = q.1 refl l
 end_behind b c t (Ok (suc k)) xs l q h = absurd (cc)
-end_behind b c t (Err e) xs l q h = absurd (shut t e (is_interruption (error_kind e)) h)
+end_behind b c t (Err e) xs l q h = absurd (shut t e (is_interruption (number_of e)) h)
 
 -- ---- bytes that are read off
 

@@ -4,12 +4,14 @@ use Rattle.std.specs.Prelude.{Result, Ok, Err, IfOk, is_ok}
 use Rattle.std.specs.declared.io.Error.{Error}
 use Rattle.std.specs.declared.io.ErrorKind.{ErrorKind}
 use Rattle.std.specs.Io.{ReadsAtMost, WritesAtMost}
-use Rattle.std.specs.IoError.{error_kind, kind_in, os_error_kinds, os_error_kind}
+use Rattle.std.specs.IoError.{kind_in, os_error_kinds, os_error_kind}
 use mathlib.Core.Bool.{and-eq-true_iff, true≢false}
+use mir.Syntax.{w32}
+use mir.Val.{of_z}
 use borrow.Author.Tests.{ltb-true, ltb-false, le-ltb, eqb-true, ne_eqb, not-true}
 use Rattle.transfer.specs.declared.Stop.TheVariants.{Interrupted, Failed}
 use Rattle.transfer.specs.declared.Transfer.{Transfer}
-use Rattle.transfer.specs.Transfer.{most_interruptions, is_interruption, stopped_at, interrupted_again, after_failure, after_call, start, Within, Answered, is_due, Reached, at-start, behind_call, Ended}
+use Rattle.transfer.specs.Transfer.{most_interruptions, number_of, is_interruption, stopped_at, interrupted_again, after_failure, after_call, start, Within, Answered, is_due, Reached, at-start, behind_call, Ended}
 
 -- a transfer that is reached: within its bytes, and not interrupted too often where nothing ended it
 pub record Kept (n : ℕ) (t : Transfer) : Type 0 where
@@ -58,7 +60,7 @@ module _ (n : ℕ) (t : Transfer) (due : is_due n t ≡ true) where
 
     pub brought_by : (answer : Result ℕ Error) → IfOk answer (λ k. k ≤ n - t.done) → Brought n t (after_call t answer)
     unfolding after_call after_failure calls_left
-    brought_by (Err error) m = failure error (is_interruption (error_kind error))
+    brought_by (Err error) m = failure error (is_interruption (number_of error))
     brought_by (Ok zero) m = stops _ refl refl
     brought_by (Ok (suc k)) m = (record { done_kept = omega (arith, more); open_kept = λ _. omega arith }, omega (arith, left_now, more, w.not_often))
 
@@ -91,23 +93,33 @@ at_most n t ended = (kept n t ended.0).done_kept
 
 -- ---- the system's interruption
 
+-- an error of any other number than EINTR, 4, is none
+pub no_interruption : (e : ℤ) → (of_z w32 e ≡ 4 → ⊥) → is_interruption e ≡ false
+no_interruption (pos k) h = ne_eqb k 4 h
+no_interruption (negsuc k) h = refl
+
+-- the kind of such an error, which errors of a writer's or a reader's own may have too
+abbrev pub is_interrupted : ErrorKind → Bool
+is_interrupted ErrorKind.Interrupted = true
+is_interrupted _ = false
+
 -- in none of these rows
 abbrev none_interrupted : List (ℕ × ErrorKind) → Bool
 none_interrupted [] = true
-none_interrupted (row ∷ rows) = not (is_interruption row.1) && none_interrupted rows
+none_interrupted (row ∷ rows) = not (is_interrupted row.1) && none_interrupted rows
 
-by_row : (b : Bool) (k m : ErrorKind) → is_interruption k ≡ false → is_interruption m ≡ false → is_interruption (cond b k m) ≡ false
+by_row : (b : Bool) (k m : ErrorKind) → is_interrupted k ≡ false → is_interrupted m ≡ false → is_interrupted (cond b k m) ≡ false
 by_row true k m p q = p
 by_row false k m p q = q
 
-none_of : (rows : List (ℕ × ErrorKind)) (code : ℕ) → none_interrupted rows ≡ true → is_interruption (kind_in rows code) ≡ false
+none_of : (rows : List (ℕ × ErrorKind)) (code : ℕ) → none_interrupted rows ≡ true → is_interrupted (kind_in rows code) ≡ false
 none_of [] code h = refl
 none_of (row ∷ rows) code h =
-    let both = (and-eq-true_iff (not (is_interruption row.1)) (none_interrupted rows)).0 h in
+    let both = (and-eq-true_iff (not (is_interrupted row.1)) (none_interrupted rows)).0 h in
     by_row _ _ _ (not-true _ both.0) (none_of rows code both.1)
 
-by_first : (code : ℕ) (a b c : Bool) (k : ErrorKind) → eqb code 1 ≡ a → eqb code 2 ≡ b → eqb code 4 ≡ c → is_interruption k ≡ false
-    → is_interruption (cond a ErrorKind.PermissionDenied (cond b ErrorKind.NotFound (cond c ErrorKind.Interrupted k))) ≡ c
+by_first : (code : ℕ) (a b c : Bool) (k : ErrorKind) → eqb code 1 ≡ a → eqb code 2 ≡ b → eqb code 4 ≡ c → is_interrupted k ≡ false
+    → is_interrupted (cond a ErrorKind.PermissionDenied (cond b ErrorKind.NotFound (cond c ErrorKind.Interrupted k))) ≡ c
 by_first code true b true k p q r h = absurd (omega (arith, eqb-true code 1 p, eqb-true code 4 r))
 by_first code true b false k p q r h = refl
 by_first code false true true k p q r h = absurd (omega (arith, eqb-true code 2 q, eqb-true code 4 r))
@@ -115,13 +127,13 @@ by_first code false true false k p q r h = refl
 by_first code false false true k p q r h = refl
 by_first code false false false k p q r h = h
 
--- of the system's errors it is the one that EINTR, 4, numbers
-pub is_interruption-os_error_kind : (code : ℕ) → is_interruption (os_error_kind (pos code)) ≡ eqb code 4
+-- of the system's errors the kind tells the same as the number
+pub is_interruption-os_error_kind : (code : ℤ) → is_interrupted (os_error_kind code) ≡ is_interruption code
 unfolding os_error_kind
-is_interruption-os_error_kind code = rw (le-ltb code 0 (omega arith)) (by_first code _ _ _ _ refl refl refl (none_of (drop 3 os_error_kinds) code refl))
+is_interruption-os_error_kind (pos code) = rw (le-ltb code 0 (omega arith)) (by_first code _ _ _ _ refl refl refl (none_of (drop 3 os_error_kinds) code refl))
+is_interruption-os_error_kind (negsuc code) = refl
 
--- and one of any other number is none
-pub no_interruption : (code : ℤ) → (code ≡ pos 4 → ⊥) → is_interruption (os_error_kind code) ≡ false
-unfolding os_error_kind
-no_interruption (pos code) other = is_interruption-os_error_kind code ∙ ne_eqb code 4 (λ e. other (ap pos e))
-no_interruption (negsuc code) other = refl
+-- and one of any other number has another kind
+pub no_interruption-os_error_kind : (code : ℤ) → (code ≡ pos 4 → ⊥) → is_interrupted (os_error_kind code) ≡ false
+no_interruption-os_error_kind (pos code) other = is_interruption-os_error_kind (pos code) ∙ ne_eqb code 4 (λ e. other (ap pos e))
+no_interruption-os_error_kind (negsuc code) other = is_interruption-os_error_kind (negsuc code)

@@ -1,8 +1,7 @@
 -- How a transfer goes on by what a reader's read or a writer's write answers, and where it stops. Definitions only.
-use Rattle.std.specs.Prelude.{ℕ, zero, suc, ◌+◌, ◌-◌, ◌≤◌, ◌<◌, Bool, true, false, ◌&&◌, cond, ◌≡◌, ltb, Option, Result, Ok, Err, is_ok, IfOk, List, length}
+use Rattle.std.specs.Prelude.{ℕ, zero, suc, ◌+◌, ◌-◌, ◌≤◌, ◌<◌, Bool, true, false, ◌&&◌, cond, ◌≡◌, eqb, ltb, ℤ, pos, negsuc, Option, unwrap_or, Result, Ok, Err, is_ok, IfOk, List, length}
 use Rattle.std.specs.declared.io.Error.{Error}
-use Rattle.std.specs.declared.io.ErrorKind.{ErrorKind}
-use Rattle.std.specs.IoError.{error_kind}
+use Rattle.std.specs.IoError.{raw_os_error}
 use Rattle.std.specs.Io.KnownBytes.{Consumes}
 use Rattle.transfer.specs.declared.Stop.{Stop}
 use Rattle.transfer.specs.declared.Stop.TheVariants.{Nothing, Interrupted, Failed}
@@ -12,9 +11,14 @@ use Rattle.transfer.specs.declared.Transfer.{Transfer}
 abbrev pub most_interruptions : ℕ
 most_interruptions = 100
 
-abbrev pub is_interruption : ErrorKind → Bool
-is_interruption ErrorKind.Interrupted = true
-is_interruption _ = false
+-- the number of an error: 0 where it is not the system's
+abbrev pub number_of : Error → ℤ
+number_of error = unwrap_or (raw_os_error error) (pos 0)
+
+-- EINTR
+abbrev pub is_interruption : ℤ → Bool
+is_interruption (pos k) = eqb k 4
+is_interruption (negsuc k) = false
 
 abbrev pub stopped_at : ℕ → Result (Unit {0}) Stop → Transfer
 stopped_at done outcome = record { done = done; interrupted = 0; outcome = outcome }
@@ -24,7 +28,7 @@ unfoldable pub interrupted_again : ℕ → ℕ → Transfer
 interrupted_again done n = record { done = done; interrupted = n; outcome = cond (ltb n most_interruptions) (Ok tt) (Err Interrupted) }
 
 unfoldable pub after_failure : Transfer → Error → Transfer
-after_failure t error = cond (is_interruption (error_kind error)) (interrupted_again t.done (t.interrupted + 1)) (stopped_at t.done (Err (Failed error)))
+after_failure t error = cond (is_interruption (number_of error)) (interrupted_again t.done (t.interrupted + 1)) (stopped_at t.done (Err (Failed error)))
 
 -- the transfer behind a call, by its answer
 unfoldable pub after_call : Transfer → Result ℕ Error → Transfer

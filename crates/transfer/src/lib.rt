@@ -9,11 +9,14 @@ ghost use Rattle.transfer.specs.Transfer.{most_interruptions, stopped_at, interr
 ghost use Rattle.transfer.specs.declared.Stop.TheVariants.{Nothing};
 
 use std::io;
-use std::io::{ErrorKind, Read, Write};
+use std::io::{Read, Write};
 
 mod failure;
 
 pub use failure::{Text, fail, tell};
+
+// The number of the system's error for a call that a signal interrupted.
+const EINTR: i32 = 4;
 
 // So many calls in a row that a signal interrupted are one failure.
 const MOST_INTERRUPTIONS: usize = 100;
@@ -97,9 +100,8 @@ impl Transfer {
                 interrupted: 0,
                 outcome: Ok(()),
             },
-            // Of the system's errors that is number 4 alone (`is_interruption-os_error_kind`); an error of a writer's or a
-            // reader's own may say so too.
-            Err(error) if error.kind() == ErrorKind::Interrupted => self.interrupted_again(),
+            // By the number and not by the kind, which an error of a writer's or a reader's own may have too.
+            Err(error) if error.raw_os_error() == Some(EINTR) => self.interrupted_again(),
             Err(error) => self.stopped(Stop::Failed(error)),
         }
     }
