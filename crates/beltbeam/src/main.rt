@@ -8,10 +8,17 @@ ghost use Rattle.beltbeam.specs.Beltbeam.{Prints};
 
 use printer::print_sheet;
 use std::io::{Read, Write};
-use transfer::{Stop, tell};
+use transfer::{Sentences, Stop, tell};
 
 // So much is read off behind a sheet that is too long, so that whoever writes it into a pipe can finish.
 const READ_OFF: usize = 1048576;
+
+// Why a sheet is not read. The first of these is never told: a read that takes nothing is the end of the sheet.
+const NOT_READ: Sentences = Sentences {
+    nothing: "the sheet is not read, a read took nothing\n",
+    interrupted: "the sheet is not read, 100 reads in a row were interrupted\n",
+    failed: "the sheet is not read, a read failed",
+};
 
 // One byte more than a sheet may have tells that it is too long: then the bytes are all full, and the end of
 // the input has not come.
@@ -29,7 +36,7 @@ fn run<R: Read, W: Write, E: Write>(input: &mut R, out: &mut W, err: &mut E)
         Err(Stop::Nothing) => {
             print_sheet(out, err, &bytes[..n]);
         }
-        Err(stop) => tell(err, "the sheet is not read", "read", stop),
+        Err(stop) => tell(err, NOT_READ, stop),
     }
 }
 

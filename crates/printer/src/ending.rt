@@ -8,11 +8,12 @@ pub enum WrongEnding {
     NoLf,
 }
 
+// What is said of it in front of what the line should be, as one text.
 impl fmt::Display for WrongEnding {
     fn fmt<W: fmt::Write>(&self, f: &mut fmt::Formatter<W>) -> fmt::Result {
         f.write_str(match self {
-            WrongEnding::CrLf => "it ends in CR LF, and a line ends in LF alone",
-            WrongEnding::NoLf => "the last line has no LF at its end",
+            WrongEnding::CrLf => "it ends in CR LF, and a line ends in LF alone; ",
+            WrongEnding::NoLf => "the last line has no LF at its end; ",
         })
     }
 }

@@ -1,9 +1,10 @@
-// What failed, and why a transfer or a call failed, in plain words.
-ghost use Rattle.std.specs.Prelude.{◌≡◌, ◌≤◌, length};
+// What failed, and why a transfer or a call failed, in plain words. A sentence, or a part of a line, is handed to `write`
+// once and whole, and also where what stands before it was not written.
+ghost use Rattle.std.specs.Prelude.{◌≡◌, ◌≤◌, ℕ, List, length};
 ghost use Rattle.std.specs.Io.KnownBytes.{Appends};
+ghost use Rattle.transfer.specs.Told.{Says, line_of, told_of};
 
-use crate::{MOST_INTERRUPTIONS, Stop, write};
-use std::fmt::Write as _;
+use crate::{Stop, write};
 use std::io::Write;
 use std::{fmt, io};
 
@@ -24,6 +25,15 @@ impl<W: Write> fmt::Write for Text<'_, W> {
     }
 }
 
+// What is told of reads or of writes that came to no more: where one moved nothing, where they were interrupted too often in
+// a row, and where one failed. The first two are whole lines, and behind the third stands why.
+#[derive(Clone, Copy, Debug)]
+pub struct Sentences {
+    pub nothing: &'static str,
+    pub interrupted: &'static str,
+    pub failed: &'static str,
+}
+
 // How many bytes stand before the last space and opening bracket.
 fn end_of_text(printed: &[u8]) -> usize
     ensures { result ≤ length printed.now }
@@ -34,49 +44,39 @@ fn end_of_text(printed: &[u8]) -> usize
         .map_or(0, |at| at.saturating_sub(1))
 }
 
-// The text of an error's number, which is 0 where the error is not the system's.
-#[derive(Debug, Drop)]
-struct Plain<'a>(&'a io::Error);
-
-impl fmt::Display for Plain<'_> {
-    fn fmt<W: fmt::Write>(&self, f: &mut fmt::Formatter<W>) -> fmt::Result {
-        let number = self.0.raw_os_error().unwrap_or(0);
-        let mut printed = [0u8; ROOM];
-        let mut rest = &mut printed[..];
-        let _ = write!(rest, "{}", io::Error::from_raw_os_error(number));
-        let n = end_of_text(&printed);
-        f.write_str(str::from_utf8(&printed[..n]).unwrap_or(""))
-    }
-}
-
-// Writes a colon, the error's text and the line's end, each of them also where the write before it failed.
-fn say_why<W: Write>(out: &mut W, error: &io::Error) {
-    write(out, b": ");
-    let _ = write!(Text(out), "{}", Plain(error));
-    write(out, b"\n");
+// Puts the text of an error's number, which is 0 where the error is not the system's, and answers its length.
+fn put_why(printed: &mut [u8; ROOM], error: &io::Error) -> usize
+    ensures { result ≤ 256 }
+{
+    let number = error.raw_os_error().unwrap_or(0);
+    let mut rest = &mut printed[..];
+    let _ = write!(rest, "{}", io::Error::from_raw_os_error(number));
+    end_of_text(printed)
 }
 
 // Writes a line: what failed, a colon and the error's text.
-pub fn fail<W: Write>(out: &mut W, what: &[u8], error: &io::Error) {
+pub fn fail<W: Write>(out: &mut W, what: &[u8], error: &io::Error)
+    ensures { (why : List ℕ) × Says (line_of what.now why) (W.contents out.old) (W.contents out.new) }
+{
+    let mut printed = [0u8; ROOM];
+    let n = put_why(&mut printed, error);
     write(out, what);
-    say_why(out, error);
+    write(out, b": ");
+    write(out, &printed[..n]);
+    write(out, b"\n");
 }
 
-// Writes a line: what is not done, and why the calls, reads or writes, came to no more.
-pub fn tell<W: Write>(out: &mut W, what: &str, call: &str, stop: Stop) {
+// Writes why reads or writes came to no more: the sentence for it, and of a failure the error's text.
+pub fn tell<W: Write>(out: &mut W, sentences: Sentences, stop: Stop)
+    ensures { (why : List ℕ) × Says (told_of sentences stop why) (W.contents out.old) (W.contents out.new) }
+{
     match stop {
         Stop::Nothing => {
-            let _ = writeln!(Text(out), "{what}, a {call} took nothing");
+            write(out, sentences.nothing.as_bytes());
         }
         Stop::Interrupted => {
-            let _ = writeln!(
-                Text(out),
-                "{what}, {MOST_INTERRUPTIONS} {call}s in a row were interrupted"
-            );
+            write(out, sentences.interrupted.as_bytes());
         }
-        Stop::Failed(error) => {
-            let _ = write!(Text(out), "{what}, a {call} failed");
-            say_why(out, &error);
-        }
+        Stop::Failed(error) => fail(out, sentences.failed.as_bytes(), &error),
     }
 }

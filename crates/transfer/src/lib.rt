@@ -13,7 +13,7 @@ use std::io::{Read, Write};
 
 mod failure;
 
-pub use failure::{Text, fail, tell};
+pub use failure::{Sentences, Text, fail, tell};
 
 // The number of the system's error for a call that a signal interrupted.
 const EINTR: i32 = 4;

@@ -1,0 +1,25 @@
+-- What is written of a failure, and of a transfer that ended before all bytes were moved. Definitions only.
+use Rattle.std.specs.Prelude.{ℕ, List, [], ◌∷◌, ◌++◌, ◌≡◌, take, Option, codes}
+use Rattle.std.specs.Io.KnownBytes.{Appends}
+use Rattle.transfer.specs.declared.failure.Sentences.{Sentences}
+use Rattle.transfer.specs.declared.Stop.{Stop}
+use Rattle.transfer.specs.declared.Stop.TheVariants.{Nothing, Interrupted, Failed}
+
+-- fronts of these parts, one behind the other: of each part all bytes, or those before a write that failed
+abbrev pub Fronts : List (List ℕ) → List ℕ → Type 0
+Fronts [] bs = bs ≡ []
+Fronts (part ∷ parts) bs = (k : ℕ) × (rest : List ℕ) × (bs ≡ take k part ++ rest) × Fronts parts rest
+
+-- a writer got such fronts, and nothing else
+abbrev pub Says : List (List ℕ) → Option (List ℕ) → Option (List ℕ) → Type 0
+Says parts old new = (bs : List ℕ) × Fronts parts bs × Appends old new bs
+
+-- a line: what failed, and why
+abbrev pub line_of : List ℕ → List ℕ → List (List ℕ)
+line_of what why = what ∷ codes ": " ∷ why ∷ codes "\n" ∷ []
+
+-- the sentence for what ended a transfer, and behind that of a failure why
+abbrev pub told_of : Sentences → Stop → List ℕ → List (List ℕ)
+told_of s Nothing why = s.nothing.now ∷ []
+told_of s Interrupted why = s.interrupted.now ∷ []
+told_of s (Failed error) why = line_of s.failed.now why
