@@ -42,8 +42,8 @@ impl Operation for CreateCurveShape {
             split_depth,
             list,
         );
-        let hash = lines::hash(list);
         out.outcome(created, |out, curves| {
+            let hash = lines::hash(list);
             out.word(curves)?;
             out.word((hash >> 32) as u32)?;
             out.word((hash % 0x1_0000_0000) as u32) // the low 32 bits
