@@ -10,7 +10,7 @@ const ANSWER_WORDS: usize = 96;
 // The status of an answer that is no refusal, as the oracle's lines have it.
 pub(crate) const DONE: u32 = 0;
 
-#[derive(Debug, Drop)]
+#[derive(Clone, Copy, Debug, PartialEq, Eq)]
 pub struct Answer {
     pub words: Words<ANSWER_WORDS>,
 }

@@ -12,6 +12,7 @@ const SPARE: usize = 100;
 
 const LIST_ROOM: usize = FLOATS * MOST_CURVES + SPARE;
 
+#[derive(Clone, Copy, Debug)]
 pub struct CreateCurveShape;
 
 impl Operation for CreateCurveShape {

@@ -4,6 +4,7 @@ use crate::inputs::Inputs;
 use crate::operation::Operation;
 use bezier::{Cubic, POINTS};
 
+#[derive(Clone, Copy, Debug)]
 pub struct Corners;
 
 impl Operation for Corners {
@@ -23,6 +24,7 @@ impl Operation for Corners {
     }
 }
 
+#[derive(Clone, Copy, Debug)]
 pub struct Area;
 
 impl Operation for Area {
@@ -34,6 +36,7 @@ impl Operation for Area {
     }
 }
 
+#[derive(Clone, Copy, Debug)]
 pub struct Price;
 
 impl Operation for Price {
@@ -46,6 +49,7 @@ impl Operation for Price {
     }
 }
 
+#[derive(Clone, Copy, Debug)]
 pub struct ObjectBound;
 
 impl Operation for ObjectBound {
@@ -59,6 +63,7 @@ impl Operation for ObjectBound {
     }
 }
 
+#[derive(Clone, Copy, Debug)]
 pub struct WorldBound;
 
 impl Operation for WorldBound {

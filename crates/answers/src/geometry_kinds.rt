@@ -4,6 +4,7 @@ use crate::inputs::Inputs;
 use crate::operation::Operation;
 use float::Ties;
 
+#[derive(Clone, Copy, Debug)]
 pub struct Sqrt;
 
 impl Operation for Sqrt {
@@ -14,6 +15,7 @@ impl Operation for Sqrt {
     }
 }
 
+#[derive(Clone, Copy, Debug)]
 pub struct Narrow;
 
 impl Operation for Narrow {
@@ -29,6 +31,7 @@ impl Operation for Narrow {
 // The status of a product that a u32 does not hold.
 const BEYOND: u32 = 1;
 
+#[derive(Clone, Copy, Debug)]
 pub struct RoundProduct;
 
 impl Operation for RoundProduct {
@@ -51,6 +54,7 @@ impl Operation for RoundProduct {
     }
 }
 
+#[derive(Clone, Copy, Debug)]
 pub struct Cross;
 
 impl Operation for Cross {
@@ -63,6 +67,7 @@ impl Operation for Cross {
     }
 }
 
+#[derive(Clone, Copy, Debug)]
 pub struct Normalize;
 
 impl Operation for Normalize {
@@ -73,6 +78,7 @@ impl Operation for Normalize {
     }
 }
 
+#[derive(Clone, Copy, Debug)]
 pub struct CoordinateSystem;
 
 impl Operation for CoordinateSystem {

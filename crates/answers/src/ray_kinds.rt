@@ -27,6 +27,7 @@ fn put_hit(out: &mut Answer, number: u32, record: SurfaceInteraction) -> Option<
     out.floats(&<[f32; RECORD_FLOATS]>::from(record))
 }
 
+#[derive(Clone, Copy, Debug)]
 pub struct Intersect;
 
 impl Operation for Intersect {
@@ -53,6 +54,7 @@ impl Operation for Intersect {
     }
 }
 
+#[derive(Clone, Copy, Debug)]
 pub struct Nearest;
 
 impl Operation for Nearest {

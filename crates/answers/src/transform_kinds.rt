@@ -3,6 +3,7 @@ use crate::answer::Answer;
 use crate::inputs::Inputs;
 use crate::operation::Operation;
 
+#[derive(Clone, Copy, Debug)]
 pub struct Inverse;
 
 impl Operation for Inverse {
@@ -13,6 +14,7 @@ impl Operation for Inverse {
     }
 }
 
+#[derive(Clone, Copy, Debug)]
 pub struct TransformPoint;
 
 impl Operation for TransformPoint {
@@ -25,6 +27,7 @@ impl Operation for TransformPoint {
     }
 }
 
+#[derive(Clone, Copy, Debug)]
 pub struct TransformRayError;
 
 impl Operation for TransformRayError {
@@ -41,6 +44,7 @@ impl Operation for TransformRayError {
     }
 }
 
+#[derive(Clone, Copy, Debug)]
 pub struct TransformBounds;
 
 impl Operation for TransformBounds {
@@ -55,6 +59,7 @@ impl Operation for TransformBounds {
     }
 }
 
+#[derive(Clone, Copy, Debug)]
 pub struct SwapsHandedness;
 
 impl Operation for SwapsHandedness {
@@ -65,6 +70,7 @@ impl Operation for SwapsHandedness {
     }
 }
 
+#[derive(Clone, Copy, Debug)]
 pub struct LookAt;
 
 impl Operation for LookAt {
