@@ -1,10 +1,14 @@
 // create_curve_shape and create_curve: the curves of all segments, into a lent list. Counts widen by `as`: by `From` the proofs of
 // the places do not close.
-ghost use Rattle.std.specs.Prelude.{◌≡◌, ◌+◌, ◌*◌, ◌≤◌, length};
+ghost use Rattle.std.specs.Prelude.{◌≡◌, ◌+◌, ◌*◌, ◌≤◌, length, pos};
+ghost use Rattle.std.specs.Float.{binary32};
+ghost use Rattle.std.specs.Float.Ieee.{of_int};
+ghost use Rattle.float.specs.Arith.{◌⊘◌};
+ghost use Rattle.geometry.specs.Pbrt.{lerp_of};
 ghost use Rattle.limits.specs.List.{over};
 ghost use Rattle.curve.specs.Layout.{floats, curve_floats};
 ghost use Rattle.create.specs.Basis.{stride_of, segment_at};
-ghost use Rattle.create.specs.Create.{ratio, part_of, part_floats, part_count, end_width, created_floats, params_of, created_of, list_after};
+ghost use Rattle.create.specs.Create.{part_floats, part_count, created_floats, params_of, created_of, list_after};
 ghost use Rattle.create.specs.Shape.{degree_number, basis_number, params_in};
 
 use crate::basis::segment;
@@ -36,12 +40,18 @@ struct Segment {
     parts: u16,
 }
 
-// a / b of two whole numbers.
-#[tactic(auto, unfolding(crate::specs::Create::ratio))]
-fn quotient(a: u16, b: u16) -> f32
-    ensures { result ≡ ratio a b }
+// A count as a float.
+fn float_of(n: u16) -> f32
+    ensures { result ≡ of_int binary32 (pos n) }
 {
-    f32::from(a) / f32::from(b)
+    f32::from(n)
+}
+
+// a / b of two counts.
+fn quotient(a: f32, b: f32) -> f32
+    ensures { result ≡ a ⊘ b }
+{
+    a / b
 }
 
 // The part of a segment between two values of u.
@@ -68,25 +78,27 @@ fn put_curve(list: &mut [f32], at: usize, curve: Curve)
     }
 }
 
-// The Rust's create_curve: all parts of a segment. A part begins at the u where the one before it ends: to divide for both
-// takes a quarter longer. The list goes with a place, and not as its rest, since the clauses say what becomes of all of it:
+// The Rust's create_curve: all parts of a segment. A count is made a float once, at the end of a part, and is carried to the
+// start of the next: made at both, laying takes a quarter longer. The list goes with a place, and not as its rest, since the clauses say what becomes of all of it:
 // `over` of a rest would owe what stands before.
 fn create_curve(list: &mut [f32], at: usize, s: Segment)
     requires { at + floats * s.parts ≤ length list.old }
     ensures { list.new ≡ over list.old at (part_floats s.cp s.width0 s.width1 s.parts) }
 {
-    let mut umin = quotient(0, s.parts);
+    let n = float_of(s.parts);
+    let mut from = float_of(0);
     for i in 0..s.parts {
-        let umax = quotient(i + 1, s.parts);
+        let to = float_of(i + 1);
+        let umin = quotient(from, n);
+        let umax = quotient(to, n);
         put_curve(list, at + i as usize * FLOATS, part(s, umin, umax));
-        umin = umax;
+        from = to;
     }
 }
 
 // The width at the end of seg segments of n.
-#[tactic(auto, unfolding(crate::specs::Create::end_width))]
-fn end_width(shape: Shape, n: u16, seg: u16) -> f32
-    ensures { result ≡ end_width (params_in shape) n seg }
+fn end_width(shape: Shape, n: f32, seg: f32) -> f32
+    ensures { result ≡ lerp_of (seg ⊘ n) shape.width0 shape.width1 }
 {
     lerp(quotient(seg, n), shape.width0, shape.width1)
 }
@@ -116,12 +128,18 @@ fn put_segments(list: &mut [f32], points: &[f32], shape: Shape, n: u16)
     ensures { list.new ≡ over list.old 0 (created_floats points.now (params_in shape) n) }
 {
     let size = FLOATS * shape.part_count() as usize;
-    let mut width0 = end_width(shape, n, 0);
+    let count = float_of(n);
+    let mut from = float_of(0);
     for seg in 0..n {
-        let width1 = end_width(shape, n, seg + 1);
-        let segment = segment_of(points, shape, seg, width0, width1);
-        create_curve(list, seg as usize * size, segment);
-        width0 = width1;
+        let to = float_of(seg + 1);
+        let width0 = end_width(shape, count, from);
+        let width1 = end_width(shape, count, to);
+        create_curve(
+            list,
+            seg as usize * size,
+            segment_of(points, shape, seg, width0, width1),
+        );
+        from = to;
     }
 }
 

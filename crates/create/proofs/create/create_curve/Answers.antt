@@ -13,27 +13,20 @@ use Rattle.create.proofs.create.create_curve.Goals as goal
 abbrev written : Segment → ℕ → List Float
 written s i = curve_floats (part_of s.cp s.width0 s.width1 s.parts i)
 
--- from one value of u to the next
-abbrev between : Segment → Float → Float → Curve
-between s u v = record { cp = s.cp; width0 = s.width0; width1 = s.width1; umin = u; umax = v }
-
 pub loop-i-init : goal.loop-i-init
 unfolding up_to
-loop-i-init c = (sym (over_nil c.args.list.now c.args.at), c.quotient-umin.ensures)
+loop-i-init c = (sym (over_nil c.args.list.now c.args.at), c.float_of-from.ensures)
 
 pub loop-i-preserved : goal.loop-i-preserved
-unfolding part_of
+unfolding part_of ratio
 loop-i-preserved c =
     let d = c.args.list.now in
     let at = c.args.at in
     let i = c.loop-i.i in
     let s = c.args.s in
     let f = written s in
-    let next = c.quotient-umax.ensures in
-    let here : c.part.result ≡ part_of s.cp s.width0 s.width1 s.parts i =
-    c.part.ensures
-    ∙ ap (λ (u : Float). between s u c.quotient-umax.result) c.loop-i.invariant.1
-    ∙ ap (λ (v : Float). between s (ratio i s.parts) v) next in (
+    let next = c.float_of-to.ensures in
+    let here : c.part.result ≡ part_of s.cp s.width0 s.width1 s.parts i = rw (c.part.ensures, c.quotient-umin.ensures, c.quotient-umax.ensures, c.loop-i.invariant.1, next, c.float_of-n.ensures) in (
       c.put_curve.ensures
           ∙ ap (λ (x : List Float). over x (at + i * floats) (curve_floats c.part.result)) c.loop-i.invariant.0
           ∙ ap (λ (x : Curve). over (over d at (up_to f i)) (at + i * floats) (curve_floats x)) here
