@@ -79,8 +79,8 @@ fn put_curve(list: &mut [f32], at: usize, curve: Curve)
 }
 
 // The Rust's create_curve: all parts of a segment. A count is made a float once, at the end of a part, and is carried to the
-// start of the next: made at both, laying takes a quarter longer. The list goes with a place, and not as its rest, since the clauses say what becomes of all of it:
-// `over` of a rest would owe what stands before.
+// start of the next: made at both, laying takes a quarter longer. The list goes with a place, and not as its rest, since the
+// clauses say what becomes of all of it: `over` of a rest would owe what stands before.
 fn create_curve(list: &mut [f32], at: usize, s: Segment)
     requires { at + floats * s.parts ≤ length list.old }
     ensures { list.new ≡ over list.old at (part_floats s.cp s.width0 s.width1 s.parts) }
