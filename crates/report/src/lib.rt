@@ -3,4 +3,4 @@
 
 mod line;
 
-pub use line::{LONGEST, Place, put_answer, put_pieces, put_refused_sheet};
+pub use line::{LONGEST, Place, put_answer, put_pieces, put_refused, put_refused_sheet};

@@ -75,11 +75,12 @@ fn put_miss(out: &mut Buffer<'_>, place: Place, looked: u32)
     out.put_word(b" hit=0\n");
 }
 
-fn put_refused(out: &mut Buffer<'_>, place: Place, refusal: Refusal)
-    ensures { Puts out.old out.new (refused_text place.ray place.piece (number_of refusal)) }
+/// The line of a refused ray, by any number.
+pub fn put_refused(out: &mut Buffer<'_>, place: Place, number: u32)
+    ensures { Puts out.old out.new (refused_text place.ray place.piece number) }
 {
     put_place(out, place);
-    put_number(out, b" refused=", refusal.number());
+    put_number(out, b" refused=", number);
     out.put_word(b"\n");
 }
 
@@ -90,7 +91,7 @@ pub fn put_answer(out: &mut Buffer<'_>, place: Place, met: Result<Intersection, 
     match met {
         Ok(Intersection::Hit(hit, looked)) => put_hit(out, place, looked, &hit),
         Ok(Intersection::Miss(looked)) => put_miss(out, place, looked),
-        Err(refusal) => put_refused(out, place, refusal),
+        Err(refusal) => put_refused(out, place, refusal.number()),
     }
 }
 

@@ -6,4 +6,4 @@ use Rattle.report.proofs.line.put_refused.Goals as goal
 
 pub returns : goal.returns
 unfolding refused_text ascii
-returns c = rw (← c.number.ensures) (then_puts (then_puts c.put_place.ensures c.put_number.ensures) c.put_word.ensures)
+returns c = then_puts (then_puts c.put_place.ensures c.put_number.ensures) c.put_word.ensures
