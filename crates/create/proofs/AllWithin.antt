@@ -7,7 +7,7 @@ use native.Mathlib.Nat.{zero-add, add-zero}
 use native.Mathlib.Omega.{arith}
 use lib.Ieee.{Float, nan}
 use lib.ListN.{length, get_or}
-use Rattle.std.specs.List.{list_all, range_with_len}
+use Rattle.std.specs.List.{fold, list_all, range_with_len}
 use Rattle.limits.specs.Below.{all_below}
 use Rattle.limits.specs.Within.{largest, within}
 use Rattle.create.specs.Create.{all_within}
@@ -45,6 +45,13 @@ behind (suc n) a P =
 pub all_below-list : (n : ℕ) (P : ℕ → Bool) → list_all P (range_with_len 0 n) ≡ all_below n P
 all_below-list n P = behind n 0 P ∙ alike n (λ k. P (0 + k)) P (λ k. ap P (zero-add k))
 
-pub all_within-list : (l : List Float) → all_within l ≡ list_all (λ x. within x largest) l
+fold-all : (p : Float → Bool) (a : Bool) (l : List Float) → fold (λ b x. b && p x) a l ≡ a && list_all p l
+fold-all p a [] = sym (and-true a)
+fold-all p a (x ∷ l) = fold-all p (a && p x) l ∙ and_assoc a (p x) (list_all p l)
+
+all_within-list : (l : List Float) → all_within l ≡ list_all (λ x. within x largest) l
 unfolding all_within
 all_within-list l = each (λ x. within x largest) l
+
+pub all_within-fold : (l : List Float) → all_within l ≡ fold (λ b x. b && within x largest) true l
+all_within-fold l = all_within-list l ∙ sym (fold-all (λ x. within x largest) true l)

@@ -52,10 +52,13 @@ fn neighbours_differ(points: &[f32]) -> bool
     (0..pairs).all(|i| !equals_next(points, i))
 }
 
+// Of at most 256 points. All are asked: with a way out at each, by `all`, laying many points takes a fifth longer.
 fn is_all_within(points: &[f32]) -> bool
     ensures { result ≡ all_within points.now }
 {
-    points.iter().all(|&x| is_within(x, LARGEST))
+    points
+        .iter()
+        .fold(true, |within, &x| within & is_within(x, LARGEST))
 }
 
 // Whether a coordinate or a width is off its limits.

@@ -71,7 +71,7 @@ pub fn object_bound(curve: &[f32]) -> Result<Bounds3f, Refusal>
 }
 
 // The box for the hall box. It and `in_world` are calls of their own: laid into their caller a hall box takes 984 instructions
-// for 901, and 632 bytes of stack for 456.
+// for 917, and 632 bytes of stack for 456.
 #[inline(never)]
 fn called_bound(curve: &CurveRef<'_>) -> Bounds3f
     ensures { result ≡ bound_of curve.now }
