@@ -67,7 +67,7 @@ fn part(s: Segment, umin: f32, umax: f32) -> Curve
     }
 }
 
-// Float by float: copy_from_slice takes 14 instructions a curve more, where all of a curve's part takes 18.
+// Float by float: copy_from_slice takes 14 instructions a curve more, where all of a curve's part takes 20.
 fn put_curve(list: &mut [f32], at: usize, curve: Curve)
     requires { at + floats ≤ length list.old }
     ensures { list.new ≡ over list.old at (curve_floats curve) }
