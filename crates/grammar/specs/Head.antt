@@ -33,6 +33,7 @@ lines_before field.Reverse = 6
 unfoldable pub field_at : List ℕ → Field → Head → ℕ → Result Line WrongLine
 field_at l field read at = line_or_wrong (line_at l (kind.Field field) at) (lines_before field) read at
 
+-- what the lines say, in their order, and the place behind them
 abbrev pub head_by : ℕ → ℕ → ℕ → ℕ → ℕ → ℕ → ℕ → ℕ → Head
 head_by degree basis ty width0 width1 splitdepth reverse end = record {
   degree = degree;

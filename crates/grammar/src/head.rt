@@ -26,16 +26,17 @@ pub struct WrongLine {
     pub read: Head,
 }
 
-// A line behind those that stand before it, which are right and say so much.
+// A line behind those that stand before it, which are right. What they say goes with one that is wrong.
 #[tactic(auto, unfolding(crate::specs::Head::field_at))]
-fn take_field(reader: &mut Reader<'_>, field: Field, read: Head) -> Result<Line, WrongLine>
-    ensures value { result ≡ field_at reader.old.src.now field read reader.old.at }
+fn take_field(reader: &mut Reader<'_>, field: Field, head: Head) -> Result<Line, WrongLine>
+    ensures value { result ≡ field_at reader.old.src.now field (record head { end = reader.old.at }) reader.old.at }
     ensures src { reader.new.src.now ≡ reader.old.src.now }
     ensures next { IfOk result (λ line. reader.new.at ≡ line.next) }
     ensures lines { IfErr result (λ wrong. wrong.lines ≡ lines_before field) }
 {
     let at = reader.at;
     let lines = field as usize;
+    let read = Head { end: at, ..head };
     reader
         .take(Kind::Field(field))
         .ok_or(WrongLine { at, lines, read })
@@ -49,26 +50,13 @@ pub fn read_head(s: &[u8]) -> Result<Head, WrongLine>
 {
     let mut reader = Reader { src: s, at: 0 };
     let mut head = Head::default();
-    let degree = take_field(&mut reader, Field::Degree, head)?;
-    head.degree = degree.value;
-    head.end = degree.next;
-    let basis = take_field(&mut reader, Field::Basis, head)?;
-    head.basis = basis.value;
-    head.end = basis.next;
-    let ty = take_field(&mut reader, Field::Type, head)?;
-    head.ty = ty.value;
-    head.end = ty.next;
-    let width0 = take_field(&mut reader, Field::Width0, head)?;
-    head.width0 = width0.value;
-    head.end = width0.next;
-    let width1 = take_field(&mut reader, Field::Width1, head)?;
-    head.width1 = width1.value;
-    head.end = width1.next;
-    let splitdepth = take_field(&mut reader, Field::SplitDepth, head)?;
-    head.splitdepth = splitdepth.value;
-    head.end = splitdepth.next;
-    let reverse = take_field(&mut reader, Field::Reverse, head)?;
-    head.reverse = reverse.value;
-    head.end = reverse.next;
+    head.degree = take_field(&mut reader, Field::Degree, head)?.value;
+    head.basis = take_field(&mut reader, Field::Basis, head)?.value;
+    head.ty = take_field(&mut reader, Field::Type, head)?.value;
+    head.width0 = take_field(&mut reader, Field::Width0, head)?.value;
+    head.width1 = take_field(&mut reader, Field::Width1, head)?.value;
+    head.splitdepth = take_field(&mut reader, Field::SplitDepth, head)?.value;
+    head.reverse = take_field(&mut reader, Field::Reverse, head)?.value;
+    head.end = reader.at;
     Ok(head)
 }

@@ -1,6 +1,5 @@
 // The lines of the report, put into a buffer that is lent.
 ghost use Rattle.report.specs.Printed.{number_text, bits_text, pieces_text, place_text, found_text, hit_text, miss_text, refused_text, answer_text, refused_sheet_text};
-ghost use Rattle.limits.specs.Refused.{number_of};
 ghost use Rattle.text.specs.Put.{Puts};
 
 use interaction::SurfaceInteraction;

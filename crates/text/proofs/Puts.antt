@@ -129,19 +129,6 @@ whole {d} {at} {s} {x} {next} p h =
 
 -- ---- of a buffer
 
-take_nil : (k : ℕ) → take {A = ℕ} k [] ≡ []
-take_nil zero = refl
-take_nil (suc k) = refl
-
--- nothing
-pub puts_none : (b : Buffer) → Puts b b []
-unfolding fitting
-puts_none b =
-    let none = take_nil (length b.bytes.now - b.end) in record {
-      same_buffer = refl;
-      put = record { list = sym (ap (over b.bytes.now b.end) none ∙ over_nil _ _); place = omega (arith, ap length none) };
-    }
-
 -- s, and then t behind it
 pub then_puts : {a b c : Buffer} {s t : List ℕ} → Puts a b s → Puts b c t → Puts a c (s ++ t)
 then_puts p q = record { same_buffer = q.same_buffer ∙ p.same_buffer; put = then p.put q.put }
