@@ -6,7 +6,7 @@ use Rattle.std.proofs.KnownBytes.{Appends-nil, Appends-trans}
 use Rattle.transfer.specs.Told.{Says, line_of}
 
 says_more : (a b c : Option (List ℕ)) (k : ℕ) (part : List ℕ) (parts : List (List ℕ)) → Appends a b (take k part) → Says parts b c → Says (part ∷ parts) a c
-says_more a b c k part parts p (bs, fronts, q) = (take k part ++ bs, (k, bs, refl, fronts), Appends-trans a b c (take k part) bs p q)
+says_more a b c k part parts p (bs, prefixes, q) = (take k part ++ bs, (k, bs, refl, prefixes), Appends-trans a b c (take k part) bs p q)
 
 pub says_one : (a b : Option (List ℕ)) (k : ℕ) (part : List ℕ) → Appends a b (take k part) → Says (part ∷ []) a b
 says_one a b k part p = says_more a b b k part [] p ([], refl, Appends-nil b)

@@ -5,14 +5,14 @@ use Rattle.transfer.specs.declared.failure.Sentences.{Sentences}
 use Rattle.transfer.specs.declared.Stop.{Stop}
 use Rattle.transfer.specs.declared.Stop.TheVariants.{Nothing, Interrupted, Failed}
 
--- fronts of these parts, one behind the other: of each part all bytes, or those before a write that failed
-abbrev pub Fronts : List (List ℕ) → List ℕ → Type 0
-Fronts [] bs = bs ≡ []
-Fronts (part ∷ parts) bs = (k : ℕ) × (rest : List ℕ) × (bs ≡ take k part ++ rest) × Fronts parts rest
+-- prefixes of these parts, one behind the other: of each part all bytes, or those before a write that failed
+abbrev pub Prefixes : List (List ℕ) → List ℕ → Type 0
+Prefixes [] bs = bs ≡ []
+Prefixes (part ∷ parts) bs = (k : ℕ) × (rest : List ℕ) × (bs ≡ take k part ++ rest) × Prefixes parts rest
 
--- a writer got such fronts, and nothing else
+-- a writer got such prefixes, and nothing else
 abbrev pub Says : List (List ℕ) → Option (List ℕ) → Option (List ℕ) → Type 0
-Says parts old new = (bs : List ℕ) × Fronts parts bs × Appends old new bs
+Says parts old new = (bs : List ℕ) × Prefixes parts bs × Appends old new bs
 
 -- a line: what failed, and why
 abbrev pub line_of : List ℕ → List ℕ → List (List ℕ)
