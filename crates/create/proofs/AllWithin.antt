@@ -49,7 +49,7 @@ fold-all : (p : Float → Bool) (a : Bool) (l : List Float) → fold (λ b x. b 
 fold-all p a [] = sym (and-true a)
 fold-all p a (x ∷ l) = fold-all p (a && p x) l ∙ and_assoc a (p x) (list_all p l)
 
-all_within-list : (l : List Float) → all_within l ≡ list_all (λ x. within x largest) l
+pub all_within-list : (l : List Float) → all_within l ≡ list_all (λ x. within x largest) l
 unfolding all_within
 all_within-list l = each (λ x. within x largest) l
 

@@ -20,7 +20,7 @@ digit_behind w (suc (suc (suc (suc (suc (suc zero)))))) h = let e : w / 65536 / 
 digit_behind w (suc (suc (suc (suc (suc (suc (suc zero))))))) h = let e : w / 65536 / 4096 % 16 ≡ w / 268435456 % 16 = omega arith in rw e
 digit_behind w (suc (suc (suc (suc (suc (suc (suc (suc i)))))))) h = absurd (omega arith)
 
-hex_next : (w i j : ℕ) → 0 < i → i ≤ 8 → j ≡ i - 1 → take (8 - i) (hex_text w) ++ (digit_char (w / 2 ^ (4 * j) % 16) ∷ []) ≡ take (8 - j) (hex_text w)
+pub hex_next : (w i j : ℕ) → 0 < i → i ≤ 8 → j ≡ i - 1 → take (8 - i) (hex_text w) ++ (digit_char (w / 2 ^ (4 * j) % 16) ∷ []) ≡ take (8 - j) (hex_text w)
 hex_next w i j h g e =
     let above : i ≡ j + 1 = omega arith in
     ap (λ (k : ℕ). take (8 - k) (hex_text w) ++ (digit_char (w / 2 ^ (4 * j) % 16) ∷ [])) above ∙ sym (digit_behind w j (omega arith))

@@ -10,7 +10,7 @@ use native.Mathlib.Omega.{arith}
 use borrow.Author.Tests.{leb-true, leb-false}
 use lib.Dec.{leb}
 use lib.ListN.{length, take, drop, set, length-append, length-take}
-use lib.Seq.{take_all, set_split, paste}
+use lib.Seq.{take-nil, take_all, set_split, paste}
 use borrow.Rule.Slice.PartMut.{put_mid}
 use Rattle.std.proofs.lemmas.Slice.{put_mid-paste}
 use Rattle.limits.specs.List.{over}
@@ -128,6 +128,15 @@ whole {d} {at} {s} {x} {next} p h =
     (p.list ∙ ap (over d at) all, p.place ∙ ap (λ (r : List ℕ). at + length r) all)
 
 -- ---- of a buffer
+
+-- nothing
+pub puts_none : (b : Buffer) → Puts b b []
+unfolding fitting
+puts_none b =
+    let none = take-nil (length b.bytes.now - b.end) in record {
+      same_buffer = refl;
+      put = record { list = sym (ap (over b.bytes.now b.end) none ∙ over_nil _ _); place = omega (arith, ap length none) };
+    }
 
 -- s, and then t behind it
 pub then_puts : {a b c : Buffer} {s t : List ℕ} → Puts a b s → Puts b c t → Puts a c (s ++ t)
