@@ -8,7 +8,7 @@ ghost use Rattle.beltbeam.specs.Beltbeam.{Prints};
 
 use printer::print_sheet;
 use std::io::{Read, Write};
-use transfer::{Sentences, Stop, tell};
+use transfer::{Sentences, Stop, tell_sentence};
 
 // So much is read off behind a sheet that is too long, so that whoever writes it into a pipe can finish.
 const READ_OFF: usize = 1048576;
@@ -36,7 +36,7 @@ fn run<R: Read, W: Write, E: Write>(input: &mut R, out: &mut W, err: &mut E)
         Err(Stop::Nothing) => {
             print_sheet(out, err, &bytes[..n]);
         }
-        Err(stop) => tell(err, NOT_READ, stop),
+        Err(stop) => tell_sentence(err, NOT_READ, stop),
     }
 }
 

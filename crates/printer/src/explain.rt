@@ -8,7 +8,7 @@ use limits::Refusal;
 use sheet::SheetRefusal;
 use std::fmt::Write as _;
 use std::io::Write;
-use transfer::{Sentences, Text, tell};
+use transfer::{Sentences, Text, tell_sentence};
 
 // What stands on a line of a sheet, by its number: a refusal tells no more of a line.
 fn expected_on(line: usize) -> &'static str {
@@ -71,7 +71,7 @@ const CUT_SHORT: Sentences = Sentences {
 // Says that a report is cut short, where and why.
 pub fn tell_cut<E: Write>(err: &mut E, printed: Printed) {
     if let Err(stop) = printed.outcome {
-        tell(err, CUT_SHORT, stop);
+        tell_sentence(err, CUT_SHORT, stop);
         let _ = writeln!(err, "{} bytes of it are written", printed.bytes);
     }
 }

@@ -1,11 +1,13 @@
 -- What is written of a failure, a part behind another. Assumes nothing.
-use Rattle.std.proofs.Common.{ℕ, List, [], ◌∷◌, ◌++◌, take, refl}
+use Rattle.std.proofs.Common.{ℕ, List, [], ◌∷◌, ◌++◌, take, refl, sym, ap, subst, ◌∙◌}
 use Rattle.std.specs.Prelude.{Option, codes}
 use Rattle.std.specs.Io.KnownBytes.{Appends}
 use Rattle.std.proofs.KnownBytes.{Appends-nil, Appends-trans}
-use Rattle.transfer.specs.Told.{Says, line_of}
+use Rattle.std.proofs.Math.Seq.{take-nil}
+use mathlib.Core.List.{append_assoc}
+use Rattle.transfer.specs.Told.{Prefixes, Says, line_of}
 
-says_more : (a b c : Option (List ℕ)) (k : ℕ) (part : List ℕ) (parts : List (List ℕ)) → Appends a b (take k part) → Says parts b c → Says (part ∷ parts) a c
+pub says_more : (a b c : Option (List ℕ)) (k : ℕ) (part : List ℕ) (parts : List (List ℕ)) → Appends a b (take k part) → Says parts b c → Says (part ∷ parts) a c
 says_more a b c k part parts p (bs, prefixes, q) = (take k part ++ bs, (k, bs, refl, prefixes), Appends-trans a b c (take k part) bs p q)
 
 pub says_one : (a b : Option (List ℕ)) (k : ℕ) (part : List ℕ) → Appends a b (take k part) → Says (part ∷ []) a b
@@ -17,3 +19,23 @@ says_line a b c d e i j k l what why p q r s =
     let end = says_one d e l (codes "\n") s in
     let reason = says_more c d e k why (codes "\n" ∷ []) r end in
     says_more a b e i what (codes ": " ∷ why ∷ codes "\n" ∷ []) p (says_more b c e j (codes ": ") (why ∷ codes "\n" ∷ []) q reason)
+
+-- nothing is a prefix of any parts
+prefixes_none : (parts : List (List ℕ)) → Prefixes parts []
+prefixes_none [] = refl
+prefixes_none (part ∷ parts) = (0, [], refl, prefixes_none parts)
+
+pub says_none : (parts : List (List ℕ)) (a : Option (List ℕ)) → Says parts a a
+says_none parts a = ([], prefixes_none parts, Appends-nil a)
+
+prefixes_then : (xs ys : List (List ℕ)) (s t : List ℕ) → Prefixes xs s → Prefixes ys t → Prefixes (xs ++ ys) (s ++ t)
+prefixes_then [] ys s t p q = subst (λ (r : List ℕ). Prefixes ys (r ++ t)) (sym p) q
+prefixes_then (part ∷ xs) ys s t (k, rest, is, p) q = (k, rest ++ t, ap (λ (r : List ℕ). r ++ t) is ∙ append_assoc (take k part) rest t, prefixes_then xs ys rest t p q)
+
+-- parts behind others
+pub says_then : (xs ys : List (List ℕ)) (a b c : Option (List ℕ)) → Says xs a b → Says ys b c → Says (xs ++ ys) a c
+says_then xs ys a b c (s, p, u) (t, q, v) = (s ++ t, prefixes_then xs ys s t p q, Appends-trans a b c s t u v)
+
+-- an empty part adds nothing
+pub says_behind : (parts : List (List ℕ)) (a b : Option (List ℕ)) → Says ([] ∷ parts) a b → Says parts a b
+says_behind parts a b (bs, (k, rest, is, p), q) = (rest, p, subst (λ (r : List ℕ). Appends a b r) (is ∙ ap (λ (t : List ℕ). t ++ rest) (take-nil k)) q)

@@ -23,3 +23,9 @@ abbrev pub told_of : Sentences → Stop → List ℕ → List (List ℕ)
 told_of s Nothing why = s.nothing.now ∷ []
 told_of s Interrupted why = s.interrupted.now ∷ []
 told_of s (Failed error) why = line_of s.failed.now why
+
+-- what is not done and by which calls, as one line in parts, and behind a failure why
+abbrev pub line_told : List ℕ → List ℕ → Stop → List ℕ → List (List ℕ)
+line_told what call Nothing why = what ∷ codes ", a " ∷ call ∷ codes " took nothing\n" ∷ []
+line_told what call Interrupted why = what ∷ codes ", 100 " ∷ call ∷ codes "s in a row were interrupted\n" ∷ []
+line_told what call (Failed error) why = what ∷ codes ", a " ∷ call ∷ line_of (codes " failed") why

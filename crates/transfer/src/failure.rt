@@ -1,8 +1,9 @@
 // What failed, and why a transfer or a call failed, in plain words. A sentence, or a part of a line, is handed to `write`
-// once and whole, and also where what stands before it was not written.
-ghost use Rattle.std.specs.Prelude.{◌≡◌, ◌≤◌, ℕ, List, length};
+// once and whole, and also where what stands before it was not written; `tell` puts a text together, which ends at a write
+// that fails.
+ghost use Rattle.std.specs.Prelude.{◌≡◌, ◌≤◌, ℕ, List, [], ◌∷◌, length};
 ghost use Rattle.std.specs.Io.KnownBytes.{Appends};
-ghost use Rattle.transfer.specs.Told.{Says, line_of, told_of};
+ghost use Rattle.transfer.specs.Told.{Says, line_of, told_of, line_told};
 
 use crate::{Stop, write};
 use std::io::Write;
@@ -67,7 +68,7 @@ pub fn fail<W: Write>(out: &mut W, what: &[u8], error: &io::Error)
 }
 
 // Writes why reads or writes came to no more: the sentence for it, and of a failure the error's text.
-pub fn tell<W: Write>(out: &mut W, sentences: Sentences, stop: Stop)
+pub fn tell_sentence<W: Write>(out: &mut W, sentences: Sentences, stop: Stop)
     ensures { (why : List ℕ) × Says (told_of sentences stop why) (W.contents out.old) (W.contents out.new) }
 {
     match stop {
@@ -78,5 +79,63 @@ pub fn tell<W: Write>(out: &mut W, sentences: Sentences, stop: Stop)
             write(out, sentences.interrupted.as_bytes());
         }
         Stop::Failed(error) => fail(out, sentences.failed.as_bytes(), &error),
+    }
+}
+
+// Writes a text in four parts, and ends at a write that fails. By std's `write!` nothing would be known of the writer then.
+fn write_text<W: Write>(out: &mut W, a: &str, b: &str, c: &str, d: &str) -> Result<(), Stop>
+    ensures { Says (a.now ∷ b.now ∷ c.now ∷ d.now ∷ []) (W.contents out.old) (W.contents out.new) }
+{
+    write(out, a.as_bytes()).outcome?;
+    write(out, b.as_bytes()).outcome?;
+    write(out, c.as_bytes()).outcome?;
+    write(out, d.as_bytes()).outcome
+}
+
+// Writes a line: what is not done, and why the calls, reads or writes, came to no more. For a caller whose words are not
+// `'static`, in several writes. Of a failure the error's text is written also where what stands before it was not.
+pub fn tell<W: Write>(out: &mut W, what: &str, call: &str, stop: Stop)
+    ensures { (why : List ℕ) × Says (line_told what.now call.now stop why) (W.contents out.old) (W.contents out.new) }
+{
+    match stop {
+        Stop::Nothing => {
+            let _ = write_text(out, what, ", a ", call, " took nothing\n");
+        }
+        Stop::Interrupted => {
+            let _ = write_text(out, what, ", 100 ", call, "s in a row were interrupted\n");
+        }
+        Stop::Failed(error) => {
+            let _ = write_text(out, what, ", a ", call, " failed");
+            fail(out, b"", &error);
+        }
+    }
+}
+
+#[cfg(test)]
+mod tests {
+    use super::*;
+
+    // The line that is told with no write failing.
+    #[test]
+    fn tells_by_which_call(rt: HostRuntime) {
+        let failed = Stop::Failed(io::Error::from_raw_os_error(9));
+        for (stop, line) in [
+            (
+                Stop::Nothing,
+                "the sheet is not read, a read took nothing\n",
+            ),
+            (
+                Stop::Interrupted,
+                "the sheet is not read, 100 reads in a row were interrupted\n",
+            ),
+            (
+                failed,
+                "the sheet is not read, a read failed: Bad file descriptor\n",
+            ),
+        ] {
+            let mut out = Vec::new(rt.alloc());
+            tell(&mut out, "the sheet is not read", "read", stop);
+            assert_eq!(rt; out.as_slice(), line.as_bytes(), "{line}");
+        }
     }
 }

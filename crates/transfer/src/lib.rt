@@ -13,12 +13,13 @@ use std::io::{Read, Write};
 
 mod failure;
 
-pub use failure::{Sentences, Text, fail, tell};
+pub use failure::{Sentences, Text, fail, tell, tell_sentence};
 
 // The number of the system's error for a call that a signal interrupted.
 const EINTR: i32 = 4;
 
-// So many calls in a row that a signal interrupted are one failure. The sentences of `printer` and `beltbeam` say the number.
+// So many calls in a row that a signal interrupted are one failure. `tell` and the sentences of `printer` and `beltbeam` say
+// the number.
 const MOST_INTERRUPTIONS: usize = 100;
 
 // Why a transfer ended before all bytes were moved: a call moved nothing, which for a read is the end of the input;

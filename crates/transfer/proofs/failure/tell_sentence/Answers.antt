@@ -1,7 +1,7 @@
 -- The sentence for what ended the transfer.
 use Rattle.std.proofs.Common.{[]}
 use Rattle.transfer.proofs.Told.{says_one}
-use Rattle.transfer.proofs.failure.tell.Goals as goal
+use Rattle.transfer.proofs.failure.tell_sentence.Goals as goal
 
 pub returns-in-Nothing : goal.returns-in-Nothing
 returns-in-Nothing g c = rw c.in-Nothing.is ([], says_one _ _ _ _ (rw c.as_bytes.ensures.value at c.write.ensures.bytes))
