@@ -24,8 +24,12 @@ told_of s Nothing why = s.nothing.now ∷ []
 told_of s Interrupted why = s.interrupted.now ∷ []
 told_of s (Failed error) why = line_of s.failed.now why
 
--- what is not done and by which calls, as one line in parts, and behind a failure why
+-- what is not done, since a call failed, and why
+abbrev pub failure_told : List ℕ → List ℕ → List ℕ → List (List ℕ)
+failure_told what call why = what ∷ codes ", a " ∷ call ∷ line_of (codes " failed") why
+
+-- what is not done, and by which calls
 abbrev pub line_told : List ℕ → List ℕ → Stop → List ℕ → List (List ℕ)
 line_told what call Nothing why = what ∷ codes ", a " ∷ call ∷ codes " took nothing\n" ∷ []
 line_told what call Interrupted why = what ∷ codes ", 100 " ∷ call ∷ codes "s in a row were interrupted\n" ∷ []
-line_told what call (Failed error) why = what ∷ codes ", a " ∷ call ∷ line_of (codes " failed") why
+line_told what call (Failed error) why = failure_told what call why

@@ -3,7 +3,7 @@
 // that fails.
 ghost use Rattle.std.specs.Prelude.{◌≡◌, ◌≤◌, ℕ, List, [], ◌∷◌, length};
 ghost use Rattle.std.specs.Io.KnownBytes.{Appends};
-ghost use Rattle.transfer.specs.Told.{Says, line_of, told_of, line_told};
+ghost use Rattle.transfer.specs.Told.{Says, line_of, told_of, failure_told, line_told};
 
 use crate::{Stop, write};
 use std::io::Write;
@@ -55,16 +55,23 @@ fn put_why(printed: &mut [u8; ROOM], error: &io::Error) -> usize
     end_of_text(printed)
 }
 
+// Writes a line: what failed, a colon and why.
+fn write_line<W: Write>(out: &mut W, what: &[u8], why: &[u8])
+    ensures { Says (line_of what.now why.now) (W.contents out.old) (W.contents out.new) }
+{
+    write(out, what);
+    write(out, b": ");
+    write(out, why);
+    write(out, b"\n");
+}
+
 // Writes a line: what failed, a colon and the error's text.
 pub fn fail<W: Write>(out: &mut W, what: &[u8], error: &io::Error)
     ensures { (why : List ℕ) × Says (line_of what.now why) (W.contents out.old) (W.contents out.new) }
 {
     let mut printed = [0u8; ROOM];
     let n = put_why(&mut printed, error);
-    write(out, what);
-    write(out, b": ");
-    write(out, &printed[..n]);
-    write(out, b"\n");
+    write_line(out, what, &printed[..n]);
 }
 
 // Writes why reads or writes came to no more: the sentence for it, and of a failure the error's text.
@@ -92,8 +99,16 @@ fn write_text<W: Write>(out: &mut W, a: &str, b: &str, c: &str, d: &str) -> Resu
     write(out, d.as_bytes()).outcome
 }
 
+// Writes a line of a failure. Why is written also where what stands before it was not.
+fn tell_failed<W: Write>(out: &mut W, what: &str, call: &str, why: &[u8])
+    ensures { Says (failure_told what.now call.now why.now) (W.contents out.old) (W.contents out.new) }
+{
+    let _ = write_text(out, what, ", a ", call, " failed");
+    write_line(out, b"", why);
+}
+
 // Writes a line: what is not done, and why the calls, reads or writes, came to no more. For a caller whose words are not
-// `'static`, in several writes. Of a failure the error's text is written also where what stands before it was not.
+// `'static`, in several writes.
 pub fn tell<W: Write>(out: &mut W, what: &str, call: &str, stop: Stop)
     ensures { (why : List ℕ) × Says (line_told what.now call.now stop why) (W.contents out.old) (W.contents out.new) }
 {
@@ -105,8 +120,9 @@ pub fn tell<W: Write>(out: &mut W, what: &str, call: &str, stop: Stop)
             let _ = write_text(out, what, ", 100 ", call, "s in a row were interrupted\n");
         }
         Stop::Failed(error) => {
-            let _ = write_text(out, what, ", a ", call, " failed");
-            fail(out, b"", &error);
+            let mut printed = [0u8; ROOM];
+            let n = put_why(&mut printed, &error);
+            tell_failed(out, what, call, &printed[..n]);
         }
     }
 }
