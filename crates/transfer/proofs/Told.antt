@@ -1,11 +1,15 @@
 -- What is written of a failure, a part behind another. Assumes nothing.
-use Rattle.std.proofs.Common.{ℕ, List, [], ◌∷◌, ◌++◌, take, refl, sym, ap, subst, ◌∙◌}
+use Rattle.std.proofs.Common.{ℕ, ◌≤◌, List, [], ◌∷◌, ◌++◌, length, take, length-take, refl, sym, ap, subst, ◌∙◌, arith}
 use Rattle.std.specs.Prelude.{Option, codes}
 use Rattle.std.specs.Io.KnownBytes.{Appends}
 use Rattle.std.proofs.KnownBytes.{Appends-nil, Appends-trans}
 use Rattle.std.proofs.Math.Seq.{take-nil}
 use mathlib.Core.List.{append_assoc}
 use Rattle.transfer.specs.Told.{Prefixes, Says, line_of}
+
+-- the system's text, of the bytes where it was put
+pub length-why : (n : ℕ) (printed : List ℕ) → n ≤ 256 → length (take n printed) ≤ 256
+length-why n printed h = omega (arith, length-take n printed)
 
 pub says_more : (a b c : Option (List ℕ)) (k : ℕ) (part : List ℕ) (parts : List (List ℕ)) → Appends a b (take k part) → Says parts b c → Says (part ∷ parts) a c
 says_more a b c k part parts p (bs, prefixes, q) = (take k part ++ bs, (k, bs, refl, prefixes), Appends-trans a b c (take k part) bs p q)

@@ -28,7 +28,7 @@ told_of s (Failed error) why = line_of s.failed.now why
 abbrev pub failure_told : List ℕ → List ℕ → List ℕ → List (List ℕ)
 failure_told what call why = what ∷ codes ", a " ∷ call ∷ line_of (codes " failed") why
 
--- what is not done, and by which calls
+-- what is not done, by which calls, and of a failure why
 abbrev pub line_told : List ℕ → List ℕ → Stop → List ℕ → List (List ℕ)
 line_told what call Nothing why = what ∷ codes ", a " ∷ call ∷ codes " took nothing\n" ∷ []
 line_told what call Interrupted why = what ∷ codes ", 100 " ∷ call ∷ codes "s in a row were interrupted\n" ∷ []

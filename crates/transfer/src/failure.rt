@@ -67,7 +67,8 @@ fn write_line<W: Write>(out: &mut W, what: &[u8], why: &[u8])
 
 // Writes a line: what failed, a colon and the error's text.
 pub fn fail<W: Write>(out: &mut W, what: &[u8], error: &io::Error)
-    ensures { (why : List ℕ) × Says (line_of what.now why) (W.contents out.old) (W.contents out.new) }
+    ensures { (why : List ℕ) × (length why ≤ 256)
+        × Says (line_of what.now why) (W.contents out.old) (W.contents out.new) }
 {
     let mut printed = [0u8; ROOM];
     let n = put_why(&mut printed, error);
@@ -76,7 +77,8 @@ pub fn fail<W: Write>(out: &mut W, what: &[u8], error: &io::Error)
 
 // Writes why reads or writes came to no more: the sentence for it, and of a failure the error's text.
 pub fn tell_sentence<W: Write>(out: &mut W, sentences: Sentences, stop: Stop)
-    ensures { (why : List ℕ) × Says (told_of sentences stop why) (W.contents out.old) (W.contents out.new) }
+    ensures { (why : List ℕ) × (length why ≤ 256)
+        × Says (told_of sentences stop why) (W.contents out.old) (W.contents out.new) }
 {
     match stop {
         Stop::Nothing => {
@@ -110,7 +112,8 @@ fn tell_failed<W: Write>(out: &mut W, what: &str, call: &str, why: &[u8])
 // Writes a line: what is not done, and why the calls, reads or writes, came to no more. For a caller whose words are not
 // `'static`, in several writes.
 pub fn tell<W: Write>(out: &mut W, what: &str, call: &str, stop: Stop)
-    ensures { (why : List ℕ) × Says (line_told what.now call.now stop why) (W.contents out.old) (W.contents out.new) }
+    ensures { (why : List ℕ) × (length why ≤ 256)
+        × Says (line_told what.now call.now stop why) (W.contents out.old) (W.contents out.new) }
 {
     match stop {
         Stop::Nothing => {

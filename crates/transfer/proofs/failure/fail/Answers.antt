@@ -1,0 +1,6 @@
+-- The system's text is what was put.
+use Rattle.transfer.proofs.Told.{length-why}
+use Rattle.transfer.proofs.failure.fail.Goals as goal
+
+pub returns : goal.returns
+returns g c = (_, length-why _ _ c.put_why-n.ensures, c.write_line.ensures)
