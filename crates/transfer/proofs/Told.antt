@@ -11,26 +11,19 @@ use Rattle.transfer.specs.Told.{Prefixes, Says, line_of}
 pub length-why : (n : ℕ) (printed : List ℕ) → n ≤ 256 → length (take n printed) ≤ 256
 length-why n printed h = omega (arith, length-take n printed)
 
-pub says_more : (a b c : Option (List ℕ)) (k : ℕ) (part : List ℕ) (parts : List (List ℕ)) → Appends a b (take k part) → Says parts b c → Says (part ∷ parts) a c
+says_more : (a b c : Option (List ℕ)) (k : ℕ) (part : List ℕ) (parts : List (List ℕ)) → Appends a b (take k part) → Says parts b c → Says (part ∷ parts) a c
 says_more a b c k part parts p (bs, prefixes, q) = (take k part ++ bs, (k, bs, refl, prefixes), Appends-trans a b c (take k part) bs p q)
 
 pub says_one : (a b : Option (List ℕ)) (k : ℕ) (part : List ℕ) → Appends a b (take k part) → Says (part ∷ []) a b
 says_one a b k part p = says_more a b b k part [] p ([], refl, Appends-nil b)
 
+pub says_four : (a b c d e : Option (List ℕ)) (i j k l : ℕ) (s t u v : List ℕ) → Appends a b (take i s) → Appends b c (take j t) → Appends c d (take k u) → Appends d e (take l v) → Says (s ∷ t ∷ u ∷ v ∷ []) a e
+says_four a b c d e i j k l s t u v p q r end =
+    says_more a b e i s (t ∷ u ∷ v ∷ []) p (says_more b c e j t (u ∷ v ∷ []) q (says_more c d e k u (v ∷ []) r (says_one d e l v end)))
+
 pub says_line : (a b c d e : Option (List ℕ)) (i j k l : ℕ) (what why : List ℕ) → Appends a b (take i what) → Appends b c (take j (codes ": ")) → Appends c d (take k why) → Appends d e (take l (codes "\n"))
     → Says (line_of what why) a e
-says_line a b c d e i j k l what why p q r s =
-    let end = says_one d e l (codes "\n") s in
-    let reason = says_more c d e k why (codes "\n" ∷ []) r end in
-    says_more a b e i what (codes ": " ∷ why ∷ codes "\n" ∷ []) p (says_more b c e j (codes ": ") (why ∷ codes "\n" ∷ []) q reason)
-
--- nothing is a prefix of any parts
-prefixes_none : (parts : List (List ℕ)) → Prefixes parts []
-prefixes_none [] = refl
-prefixes_none (part ∷ parts) = (0, [], refl, prefixes_none parts)
-
-pub says_none : (parts : List (List ℕ)) (a : Option (List ℕ)) → Says parts a a
-says_none parts a = ([], prefixes_none parts, Appends-nil a)
+says_line a b c d e i j k l what why p q r s = says_four a b c d e i j k l what (codes ": ") why (codes "\n") p q r s
 
 prefixes_then : (xs ys : List (List ℕ)) (s t : List ℕ) → Prefixes xs s → Prefixes ys t → Prefixes (xs ++ ys) (s ++ t)
 prefixes_then [] ys s t p q = subst (λ (r : List ℕ). Prefixes ys (r ++ t)) (sym p) q

@@ -9,7 +9,7 @@ use crate::{Stop, write};
 use std::io::Write;
 use std::{fmt, io};
 
-// Room for what std prints of an error: its text, and "(os error N)" behind.
+// Room for what std prints of an error: its text, and "(os error N)" behind. The clauses below say the number.
 const ROOM: usize = 256;
 
 // A writer that text goes to by way of `write`, which gives up where calls are interrupted too often in a row. A text
@@ -91,7 +91,8 @@ pub fn tell_sentence<W: Write>(out: &mut W, sentences: Sentences, stop: Stop)
     }
 }
 
-// Writes a text in four parts, and ends at a write that fails. By std's `write!` nothing would be known of the writer then.
+// Writes a text in four parts, and ends at a write that fails: by std's `write!` nothing would be known of the writer then.
+// `tell` drops the answer, since there is nowhere to tell it.
 fn write_text<W: Write>(out: &mut W, a: &str, b: &str, c: &str, d: &str) -> Result<(), Stop>
     ensures { Says (a.now ∷ b.now ∷ c.now ∷ d.now ∷ []) (W.contents out.old) (W.contents out.new) }
 {

@@ -1,4 +1,4 @@
--- The system's text is what was put.
+-- Why is what was put, which had room for 256 bytes.
 use Rattle.transfer.proofs.Told.{length-why}
 use Rattle.transfer.proofs.failure.fail.Goals as goal
 
